@@ -1,0 +1,9 @@
+pub mod Runs
+pub mod Counts
+pub mod Laws
+pub mod First
+pub mod Whole
+pub mod Places
+pub mod Lines
+pub mod Cleared
+pub mod Answers

@@ -1,0 +1,9 @@
+pub mod Bytes
+pub mod Run
+pub mod Kinds
+pub mod Lex
+pub mod Places
+pub mod Lines
+pub mod Screen
+pub mod Answer
+pub mod Examples
