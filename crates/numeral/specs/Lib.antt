@@ -1,0 +1,6 @@
+pub mod Numeral
+pub mod Machine
+pub mod Shortest
+pub mod Laid
+pub mod Stored
+pub mod Examples

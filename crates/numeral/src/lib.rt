@@ -1,0 +1,317 @@
+// Numerals: what one says in millionths, the shortest one of a value and where it goes in a buffer, and the word of 64
+// bits that a record stores for a value.
+ghost use Prim.Native.Nat.{_≤_, _<_, _+_, _-_, _*_, _^_};
+ghost use mathlib.Core.Path.{_≡_};
+ghost use mathlib.Core.Bool.{true};
+ghost use lib.ListN.{length, drop};
+ghost use lib.Seq.{sets};
+ghost use Rattle.numeral.specs.Numeral.{numeralOf, limit, digit};
+ghost use Rattle.numeral.specs.Machine.{pushed, ended, zerosOf, decimalsOf, wholeOf};
+ghost use Rattle.numeral.specs.Shortest.{belowNought, sign, natural, fraction, shortest};
+ghost use Rattle.numeral.specs.Laid.{writtenOf, laid};
+ghost use Rattle.numeral.specs.Stored.{storedOf, valueOf};
+
+// What a numeral says: whether it is below nought, and its magnitude in millionths; or that it is no numeral.
+pub enum Value {
+    Scaled(bool, u64),
+    Not,
+}
+
+// The place after what was written; or that the buffer has no room for it.
+pub enum Written {
+    Upto(usize),
+    NoRoom,
+}
+
+const LIMIT: u64 = 10000000000000;
+
+const MILLION: u64 = 1000000;
+
+const POWERS: [u64; 7] = [1, 10, 100, 1000, 10000, 100000, 1000000];
+
+const GREATEST_WORD: u64 = 18446744073709551615;
+
+// `0` to `9`.
+fn is_digit(b: u8) -> bool
+    ensures { λ r. ⌜ r ≡ digit b ⌝ }
+{
+    (b'0' <= b) & (b <= b'9')
+}
+
+// `x` with one digit more, or one above the limit where that passes it.
+fn push(x: u64, b: u8) -> u64
+    requires { ⌜ (x ≤ limit + 1) × (digit b ≡ true) ⌝ }
+    ensures { λ r. ⌜ r ≡ pushed x b ⌝ }
+{
+    let d = b - b'0';
+    let next = x * 10 + d as u64;
+    if next <= LIMIT { next } else { LIMIT + 1 }
+}
+
+// Ten to the power k.
+fn power(k: usize) -> u64
+    requires { ⌜ k ≤ 6 ⌝ }
+    ensures { λ r. ⌜ r ≡ 10 ^ k ⌝ }
+{
+    POWERS[k]
+}
+
+// The answer at the end of the bytes, where `room` more decimals would have counted.
+fn finish(negative: bool, empty: bool, room: usize, x: u64) -> Value
+    requires { ⌜ (x ≤ limit + 1) × (room ≤ 6) ⌝ }
+    ensures { λ v. ⌜ v ≡ ended negative empty room x ⌝ }
+{
+    if empty {
+        return Value::Not;
+    }
+    let m = x * power(room);
+    if LIMIT < m {
+        return Value::Not;
+    }
+    if m == 0 {
+        return Value::Scaled(false, 0);
+    }
+    Value::Scaled(negative, m)
+}
+
+// The bytes past the sixth decimal.
+fn zeros(part: &[u8], from: usize, negative: bool, x: u64) -> Value
+    requires { ⌜ (from ≤ length (now part)) × (x ≤ limit + 1) ⌝ }
+    ensures { λ v. ⌜ v ≡ zerosOf negative x (drop from (now (part .entry))) ⌝ }
+{
+    let mut i = from;
+    while i < part.len() {
+        if part[i] != b'0' {
+            return Value::Not;
+        }
+        i += 1;
+    }
+    finish(negative, false, 0, x)
+}
+
+// The bytes past the point.
+fn decimals(part: &[u8], from: usize, negative: bool, none: bool, whole: u64) -> Value
+    requires { ⌜ (from ≤ length (now part)) × (whole ≤ limit + 1) ⌝ }
+    ensures { λ v. ⌜ v ≡ decimalsOf negative none 6 whole (drop from (now (part .entry))) ⌝ }
+{
+    let mut empty = none;
+    let mut room: usize = 6;
+    let mut x = whole;
+    let mut i = from;
+    while i < part.len() {
+        if room == 0 {
+            return zeros(part, i, negative, x);
+        }
+        let b = part[i];
+        if !is_digit(b) {
+            return Value::Not;
+        }
+        x = push(x, b);
+        empty = false;
+        room -= 1;
+        i += 1;
+    }
+    finish(negative, empty, room, x)
+}
+
+// The numeral but for its minus.
+fn unsigned(part: &[u8], from: usize, negative: bool) -> Value
+    requires { ⌜ from ≤ length (now part) ⌝ }
+    ensures { λ v. ⌜ v ≡ wholeOf negative true 0 (drop from (now (part .entry))) ⌝ }
+{
+    let mut empty = true;
+    let mut x: u64 = 0;
+    let mut i = from;
+    while i < part.len() {
+        let b = part[i];
+        if b == b'.' {
+            return decimals(part, i + 1, negative, empty, x);
+        }
+        if !is_digit(b) {
+            return Value::Not;
+        }
+        x = push(x, b);
+        empty = false;
+        i += 1;
+    }
+    finish(negative, empty, 6, x)
+}
+
+// What a byte string says as a numeral.
+pub fn numeral(part: &[u8]) -> Value
+    ensures { λ v. ⌜ v ≡ numeralOf (now (part .entry)) ⌝ }
+{
+    if part.len() == 0 {
+        return Value::Not;
+    }
+    if part[0] == b'-' {
+        return unsigned(part, 1, true);
+    }
+    unsigned(part, 0, false)
+}
+
+// Whether a number is below nought: minus nought is not.
+fn below_nought(negative: bool, m: u64) -> bool
+    ensures { λ r. ⌜ r ≡ belowNought negative m ⌝ }
+{
+    negative & (m != 0)
+}
+
+// The word of a value, in two's complement.
+pub fn stored(negative: bool, m: u64) -> u64
+    ensures { λ r. ⌜ r ≡ storedOf negative m ⌝ }
+{
+    if below_nought(negative, m) {
+        return GREATEST_WORD - m + 1;
+    }
+    m
+}
+
+// The value of a word.
+pub fn value_of(word: u64) -> Value
+    ensures { λ v. ⌜ v ≡ valueOf word ⌝ }
+{
+    if word < 9223372036854775808 {
+        return Value::Scaled(false, word);
+    }
+    Value::Scaled(true, GREATEST_WORD - word + 1)
+}
+
+// How many bytes the minus takes.
+fn sign_width(negative: bool, m: u64) -> usize
+    ensures { λ r. ⌜ r ≡ length (sign negative m) ⌝ }
+{
+    if below_nought(negative, m) {
+        return 1;
+    }
+    0
+}
+
+// How many bytes the digits of n take.
+fn natural_width(n: u64) -> usize
+    ensures { λ r. ⌜ r ≡ length (natural 19 n) ⌝ }
+{
+    let mut rest = n;
+    let mut w: usize = 1;
+    while 10 <= rest {
+        rest = rest / 10;
+        w += 1;
+    }
+    w
+}
+
+// How many bytes the decimals of f millionths take.
+fn fraction_width(f: u64) -> usize
+    requires { ⌜ f < 1000000 ⌝ }
+    ensures { λ r. ⌜ r ≡ length (fraction 6 f) ⌝ }
+{
+    let mut k = 6;
+    let mut rest = f;
+    let mut w: usize = 0;
+    while 0 < rest {
+        k -= 1;
+        rest = rest % power(k);
+        w += 1;
+    }
+    w
+}
+
+// The length of the shortest numeral of m millionths.
+pub fn width(negative: bool, m: u64) -> usize
+    ensures { λ r. ⌜ r ≡ length (shortest negative m) ⌝ }
+{
+    let s = sign_width(negative, m);
+    let n = natural_width(m / MILLION);
+    let f = m % MILLION;
+    if f == 0 {
+        return s + n;
+    }
+    s + n + 1 + fraction_width(f)
+}
+
+// The byte of a digit.
+fn glyph(d: u64) -> u8
+    requires { ⌜ d < 10 ⌝ }
+    ensures { λ r. ⌜ r ≡ 48 + d ⌝ }
+{
+    b'0' + d as u8
+}
+
+// Lays a minus at `at` where the number is below nought, and answers the place after it.
+fn lay_sign(negative: bool, m: u64, out: &mut [u8], at: usize) -> usize
+    requires { ⌜ at + length (sign negative m) ≤ length (now out) ⌝ }
+    ensures { λ r. ⌜ r ≡ at + length (sign negative m) ⌝ }
+    ensures { λ r. ⌜ now (out .exit) ≡ sets (now (out .entry)) at (sign negative m) ⌝ }
+{
+    if below_nought(negative, m) {
+        out[at] = b'-';
+        return at + 1;
+    }
+    at
+}
+
+// Lays the digits of n at `at`, and answers the place after them.
+fn lay_natural(n: u64, out: &mut [u8], at: usize) -> usize
+    requires { ⌜ at + length (natural 19 n) ≤ length (now out) ⌝ }
+    ensures { λ r. ⌜ r ≡ at + length (natural 19 n) ⌝ }
+    ensures { λ r. ⌜ now (out .exit) ≡ sets (now (out .entry)) at (natural 19 n) ⌝ }
+{
+    if n < 10 {
+        out[at] = glyph(n);
+        return at + 1;
+    }
+    let p = lay_natural(n / 10, out, at);
+    out[p] = glyph(n % 10);
+    p + 1
+}
+
+// Lays the decimals of f millionths at `at`, and answers the place after them.
+fn lay_fraction(f: u64, out: &mut [u8], at: usize) -> usize
+    requires { ⌜ f < 1000000 ⌝ }
+    requires { ⌜ at + length (fraction 6 f) ≤ length (now out) ⌝ }
+    ensures { λ r. ⌜ r ≡ at + length (fraction 6 f) ⌝ }
+    ensures { λ r. ⌜ now (out .exit) ≡ sets (now (out .entry)) at (fraction 6 f) ⌝ }
+{
+    let mut k = 6;
+    let mut rest = f;
+    let mut p = at;
+    while 0 < rest {
+        k -= 1;
+        let unit = power(k);
+        out[p] = glyph(rest / unit);
+        rest = rest % unit;
+        p += 1;
+    }
+    p
+}
+
+// Lays the shortest numeral of m millionths at `at`, and answers the place after it.
+fn lay(negative: bool, m: u64, out: &mut [u8], at: usize) -> usize
+    requires { ⌜ at + length (shortest negative m) ≤ length (now out) ⌝ }
+    ensures { λ r. ⌜ r ≡ at + length (shortest negative m) ⌝ }
+    ensures { λ r. ⌜ now (out .exit) ≡ sets (now (out .entry)) at (shortest negative m) ⌝ }
+{
+    let p = lay_sign(negative, m, out, at);
+    let q = lay_natural(m / MILLION, out, p);
+    let f = m % MILLION;
+    if f == 0 {
+        return q;
+    }
+    out[q] = b'.';
+    lay_fraction(f, out, q + 1)
+}
+
+// Puts the shortest numeral of m millionths into a buffer, from `at` on.
+pub fn put(negative: bool, m: u64, out: &mut [u8], at: usize) -> Written
+    ensures { λ r. ⌜ r ≡ writtenOf (now (out .entry)) at (shortest negative m) ⌝ }
+    ensures { λ r. ⌜ now (out .exit) ≡ laid (now (out .entry)) at (shortest negative m) ⌝ }
+{
+    let w = width(negative, m);
+    if out.len() < w {
+        return Written::NoRoom;
+    }
+    if out.len() - w < at {
+        return Written::NoRoom;
+    }
+    Written::Upto(lay(negative, m, out, at))
+}

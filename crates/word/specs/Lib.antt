@@ -1,0 +1,4 @@
+pub mod Words
+pub mod Lookup
+pub mod Codes
+pub mod Examples

@@ -1,0 +1,69 @@
+// The words of LEF: the number of the word that a token spells, found in one step, and the codes of the value words.
+ghost use mathlib.Core.Path.{_≡_};
+ghost use Prim.Native.Nat.{_+_, _-_, _^_, _≤_, _<_, min};
+ghost use lib.ListN.{length, take, drop};
+ghost use Rattle.word.specs.Words.{raised, upper, wordOf, isKey};
+ghost use Rattle.word.specs.Lookup.{marked};
+
+pub mod codes;
+pub mod names;
+mod nodes;
+
+// The number of the word that the bytes spell, in upper or lower case, or 0.
+pub fn word_of(part: &[u8]) -> u8
+    ensures { λ r. ⌜ r ≡ wordOf (now (part .entry)) ⌝ }
+{
+    let mut at = 0;
+    let mut node: u8 = 0;
+    while at < part.len() {
+        let stop = stretch_end(at, part.len());
+        node = nodes::next(node as u64 + 256 * stretch(part, at, stop));
+        if node == 0 {
+            return 0;
+        }
+        at = stop;
+    }
+    if node <= names::WORDS { node } else { 0 }
+}
+
+// Whether the word is a key word.
+pub fn is_key(k: u8) -> bool
+    ensures { λ r. ⌜ r ≡ isKey k ⌝ }
+{
+    (1 <= k) & (k <= names::KEYS)
+}
+
+fn up(b: u8) -> u8
+    ensures { λ r. ⌜ r ≡ raised b ⌝ }
+{
+    if (97 <= b) & (b <= 122) { b - 32 } else { b }
+}
+
+// The end of the stretch of at most six bytes that starts at a place before the end.
+fn stretch_end(at: usize, end: usize) -> usize
+    requires { ⌜ at < end ⌝ }
+    ensures { λ r. ⌜ r ≡ min (at + 6) end ⌝ }
+{
+    if end - at < 6 { end } else { at + 6 }
+}
+
+// The bytes of a stretch, raised, as a number with a mark at its end.
+fn stretch(part: &[u8], from: usize, to: usize) -> u64
+    requires { ⌜ (from ≤ to) × (to ≤ from + 6) × (to ≤ length (now part)) ⌝ }
+    ensures of { λ r. ⌜ r ≡ marked (upper (take (to - from) (drop from (now (part .entry))))) ⌝ }
+    ensures small { λ r. ⌜ r < 2 ^ 49 ⌝ }
+{
+    let mut i = to;
+    let mut sum = 1;
+    while from < i {
+        i -= 1;
+        sum = 256 * sum + wide(up(part[i]));
+    }
+    sum
+}
+
+fn wide(x: u8) -> u64
+    ensures { λ r. ⌜ (r ≡ x) × (r < 256) ⌝ }
+{
+    x as u64
+}
