@@ -7,3 +7,4 @@ pub mod Places
 pub mod Lines
 pub mod Cleared
 pub mod Answers
+pub mod Edge

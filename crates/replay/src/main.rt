@@ -1,0 +1,195 @@
+// Replays vectors: each line of standard input is a letter and bytes in hexadecimal, and the answer to it is printed on a line.
+//   t TEXT           all tokens of a text, each as kind, start, stop and line; then `end`, or `bad` with place and line
+//   f PLACE TEXT     the first token from a place (one byte), as refusal, place, line, kind, start, stop
+//   n TEXT           a numeral as its sign and millionths, or `not`; then the shortest numeral of that value
+//   w TEXT           the number of a key word, `value` for another word that is known, or `none`
+//   c KIND TEXT      the code of a value of a kind of record (one byte): a word, or two with a space between them
+//   r FILE           the records of a record file: the fields of each, then the bytes of a buffer of two records after it was put second
+ghost use Prim.Native.Nat.{_≤_};
+ghost use lib.ListN.{length};
+
+mod hex;
+mod say;
+
+use lexer::Answer;
+use lexer::Lexed;
+use numeral::Value;
+use numeral::Written;
+use record::Found;
+use record::Record;
+
+fn main() {
+    let mut input = io::large_buffer();
+    let n = io::read_full(0, &mut input);
+    lines(&input[..n]);
+}
+
+fn lines(input: &[u8]) {
+    let mut at = 0;
+    while at < input.len() {
+        let stop = next_of(b'\n', input, at);
+        line(&input[at..stop]);
+        at = stop + 1;
+    }
+}
+
+// The place of the next such byte from a place on, or the end.
+fn next_of(byte: u8, input: &[u8], at: usize) -> usize
+    requires { ⌜ at ≤ length (now input) ⌝ }
+    ensures { λ r. ⌜ (at ≤ r) × (r ≤ length (now (input .entry))) ⌝ }
+{
+    let mut i = at;
+    while i < input.len() && input[i] != byte {
+        i += 1;
+    }
+    i
+}
+
+fn line(part: &[u8]) {
+    let mut text = [0u8; 256];
+    let n = hex::bytes(part, &mut text);
+    if part.len() == 0 {
+        return;
+    }
+    let letter = part[0];
+    match letter {
+        b't' => tokens(&text[0..n]),
+        b'f' => first(&text[0..n]),
+        b'n' => value(&text[0..n]),
+        b'w' => word(&text[0..n]),
+        b'c' => code(&text[0..n]),
+        b'r' => records(&text[0..n]),
+        _ => say::text(b"?"),
+    }
+    say::newline();
+}
+
+fn tokens(text: &[u8]) {
+    let mut at = 0;
+    let mut line = 1;
+    let mut left = text.len() + 1;
+    while 0 < left {
+        left -= 1;
+        match lexer::lex(text, at, line) {
+            Lexed::Found(t) => {
+                say::number(t.kind as u64);
+                say::number(t.start as u64);
+                say::number(t.stop as u64);
+                say::number(t.line as u64);
+                at = t.stop;
+                line = t.line;
+            }
+            Lexed::End(_) => {
+                say::text(b"end");
+                return;
+            }
+            Lexed::Bad(place, line) => {
+                say::text(b"bad ");
+                say::number(place as u64);
+                say::number(line as u64);
+                return;
+            }
+        }
+    }
+}
+
+fn first(text: &[u8]) {
+    if text.len() == 0 {
+        return;
+    }
+    let place = wide(text[0]);
+    let rest = &text[1..];
+    match lexer::first_token(rest, place) {
+        Answer::Found(t) => six(0, 0, 0, t.kind, t.start, t.stop),
+        Answer::End => six(0, 0, 0, 0, rest.len(), rest.len()),
+        Answer::Refused(r) => six(r.number, r.place, r.line, 0, 0, 0),
+    }
+}
+
+fn wide(b: u8) -> usize {
+    b as usize
+}
+
+fn six(refusal: u8, place: usize, line: usize, kind: u8, start: usize, stop: usize) {
+    say::number(refusal as u64);
+    say::number(place as u64);
+    say::number(line as u64);
+    say::number(kind as u64);
+    say::number(start as u64);
+    say::number(stop as u64);
+}
+
+fn value(text: &[u8]) {
+    match numeral::numeral(text) {
+        Value::Scaled(negative, m) => {
+            say::sign(negative);
+            say::number(m);
+            shortest(negative, m);
+        }
+        Value::Not => say::text(b"not"),
+    }
+}
+
+fn shortest(negative: bool, m: u64) {
+    let mut out = [0u8; 24];
+    match numeral::put(negative, m, &mut out, 0) {
+        Written::Upto(n) => say::front(&out, n),
+        Written::NoRoom => say::text(b"no room"),
+    }
+}
+
+fn word(text: &[u8]) {
+    let k = word::word_of(text);
+    if word::is_key(k) {
+        say::number(k as u64);
+    } else if k == 0 {
+        say::text(b"none");
+    } else {
+        say::text(b"value");
+    }
+}
+
+fn code(text: &[u8]) {
+    if text.len() == 0 {
+        return;
+    }
+    let kind = text[0];
+    let stop = next_of(b' ', text, 1);
+    let first = word::word_of(&text[1..stop]);
+    if stop < text.len() {
+        let next = stop + 1;
+        let second = word::word_of(&text[next..]);
+        say::number(word::codes::code_of(kind, first, second) as u64);
+    } else {
+        say::number(word::codes::code_of(kind, first, 0) as u64);
+    }
+}
+
+fn records(file: &[u8]) {
+    let mut i = 0;
+    while i < 8 {
+        match Record::read(file, i) {
+            Found::At(r) => one(r),
+            Found::Past => {
+                say::text(b"past");
+                return;
+            }
+        }
+        i += 1;
+    }
+}
+
+fn one(r: Record) {
+    say::number(r.kind() as u64);
+    say::number(r.code() as u64);
+    say::number(r.at() as u64);
+    say::number(r.owner() as u64);
+    say::number(r.name() as u64);
+    say::number(r.len() as u64);
+    say::number(r.x());
+    say::number(r.y());
+    let mut copy = [0u8; 72];
+    if r.put(&mut copy, 1) {
+        say::bytes(&copy);
+    }
+}

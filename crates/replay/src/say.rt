@@ -1,0 +1,42 @@
+// What the program prints.
+pub fn text(word: &[u8]) {
+    io::write_all(1, word);
+}
+
+pub fn newline() {
+    io::write_all(1, b"\n");
+}
+
+// A number and a space.
+pub fn number(n: u64) {
+    io::print_decimal(1, n);
+    io::write_all(1, b" ");
+}
+
+pub fn sign(negative: bool) {
+    if negative {
+        io::write_all(1, b"- ");
+    } else {
+        io::write_all(1, b"+ ");
+    }
+}
+
+// The first n bytes.
+pub fn front(bytes: &[u8], n: usize) {
+    if n <= bytes.len() {
+        text(&bytes[0..n]);
+    }
+}
+
+// Each byte as a number.
+pub fn bytes(all: &[u8]) {
+    let mut i = 0;
+    while i < all.len() {
+        number(wide(all[i]));
+        i += 1;
+    }
+}
+
+fn wide(b: u8) -> u64 {
+    b as u64
+}
