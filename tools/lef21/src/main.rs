@@ -2,7 +2,8 @@
 //! prints each answer on a line, in the words of this repository's replay programs.
 //!
 //! tokens:   `KIND START STOP LINE` for each token, then `end LINE` or `bad PLACE LINE`
-//! numerals: `- MILLIONTHS`, `+ MILLIONTHS` or `not`
+//! numerals: `- MILLIONTHS`, `+ MILLIONTHS`, or `not` where rust_decimal refuses, or millionths are not whole or too many
+//! decimals: the number itself as rust_decimal holds it, `MANTISSA SCALE`, or `refused`
 use lef21::read::LefLexer;
 use lef21::LefError;
 use std::io::{BufRead, Write};
@@ -77,6 +78,13 @@ fn numeral(src: &str) -> String {
     format!("{} {}", if m < 0 { "-" } else { "+" }, m.abs())
 }
 
+fn decimal(src: &str) -> String {
+    match rust_decimal::Decimal::from_str(src) {
+        Ok(d) => format!("{} {}", d.mantissa(), d.scale()),
+        Err(_) => "refused".to_string(),
+    }
+}
+
 fn main() {
     let mode = std::env::args().nth(1).unwrap_or_default();
     let stdin = std::io::stdin();
@@ -86,7 +94,8 @@ fn main() {
         let said = match mode.as_str() {
             "tokens" => tokens(&src),
             "numerals" => numeral(&src),
-            _ => panic!("usage: lef21-oracle tokens | numerals"),
+            "decimals" => decimal(&src),
+            _ => panic!("usage: lef21-oracle tokens | numerals | decimals"),
         };
         writeln!(out, "{}", said).unwrap();
     }
