@@ -2,13 +2,12 @@
 use Prim.Native.Nat.{ℕ, zero, suc, _≤_, _<_}
 use mathlib.Core.Path.{_≡_, refl}
 use mathlib.Core.Bool.{Bool, true}
-use mathlib.Core.List.{List, [], _∷_}
+use mathlib.Core.List.{List}
 use native.Mathlib.Nat.{zero-add}
 use native.Mathlib.Omega.{arith}
 use borrow.Author.Tests.{lt-ltb, le-ltb, le-leb}
 use lib.ListN.{length, replicate, length-replicate}
 use Rattle.refusal.specs.Table.{refused, tooLong}
-use Rattle.lexer.specs.declared.Screened.{Screened}
 use Rattle.lexer.specs.declared.Screened.the-variants.{Clear, Refused}
 use Rattle.lexer.specs.Bytes.{isAscii}
 use Rattle.lexer.specs.Run.{run}

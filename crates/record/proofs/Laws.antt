@@ -1,22 +1,20 @@
 -- Reading back what was written, since a record in range is the record of its bytes; and what writing leaves alone.
-use Prim.Native.Nat.{ℕ, zero, suc, _+_, _-_, _*_, _/_, _%_, _^_, _≤_, _<_}
+use Prim.Native.Nat.{ℕ, zero, suc, _+_, _-_, _*_, _/_, _^_, _≤_, _<_}
 use mathlib.Core.Path.{_≡_, refl, sym, ap, _∙_}
 use mathlib.Core.Bool.{true, false, cond}
 use mathlib.Core.Logic.{_↔_, _≢_}
 use mathlib.Core.List.{List, [], _∷_, _++_, append-assoc}
-use native.Mathlib.Nat.{add-zero}
 use native.Mathlib.Decide.{decLt}
 use native.Mathlib.Omega.{arith}
-use borrow.Author.Tests.{lt-ltb, ltb-true}
-use lib.IntN.{ℤ, pos, negsuc}
-use lib.ListN.{length, take, drop, getD, set, length-append, length-take, length-drop, take-append-drop}
-use lib.Seq.{sets, sets-eq, take-at, drop-at, length-sets, take-add, drop-drop, take-take, getD-take, getD-drop, take-all, drop-cons, drop-set-add, drop-set-lt, take-set-le, length-take-le}
+use borrow.Author.Tests.{ltb-true}
+use lib.IntN.{pos, negsuc}
+use lib.ListN.{length, take, drop, getD, set, length-take, length-drop, take-append-drop}
+use lib.Seq.{sets, sets-eq, take-at, drop-at, length-sets, drop-drop, getD-drop, take-all, drop-cons, drop-set-add, drop-set-lt, take-set-le, length-take-le}
 use mir.Syntax.{w64}
 use mir.ValLaws.{toZ-pos, toZ-neg}
 use Rattle.record.specs.declared.Record.{Record}
-use Rattle.record.specs.declared.Found.{Found}
-use Rattle.record.specs.declared.Found.the-variants.{At, Past}
-use Rattle.record.specs.Little.{little, number}
+use Rattle.record.specs.declared.Found.the-variants.{At}
+use Rattle.record.specs.Little.{little}
 use Rattle.record.specs.File.{encoded, field, decoded, hasRoom, recordAt, stored}
 use Rattle.record.specs.Range.{InRange, Bytes, signed}
 use Rattle.record.proofs.Little.{number-little, little-number}
@@ -45,13 +43,14 @@ read-back r h =
 pub same-bytes : (r q : Record) → InRange r → InRange q → (encoded r ≡ encoded q) ↔ (r ≡ q)
 same-bytes r q h k = (λ e. sym (read-back r h) ∙ ap decoded e ∙ read-back q k, ap encoded)
 
-take-bytes : (n : ℕ) (l : List ℕ) → Bytes l → Bytes (take n l)
+-- parts of bytes are bytes
+pub take-bytes : (n : ℕ) (l : List ℕ) → Bytes l → Bytes (take n l)
 take-bytes zero l h i = omega arith
 take-bytes (suc n) [] h i = omega arith
 take-bytes (suc n) (b ∷ l) h zero = h 0
 take-bytes (suc n) (b ∷ l) h (suc i) = take-bytes n l (λ j. h (suc j)) i
 
-drop-bytes : (o : ℕ) (l : List ℕ) → Bytes l → Bytes (drop o l)
+pub drop-bytes : (o : ℕ) (l : List ℕ) → Bytes l → Bytes (drop o l)
 drop-bytes o l h i = rw getD-drop (h (o + i))
 
 -- the n bytes at o, out of their number again

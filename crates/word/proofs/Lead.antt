@@ -3,19 +3,20 @@ use Prim.Native.Nat.{ℕ, zero, suc, _+_, _-_, _*_, _/_, _≤_, _<_}
 use mathlib.Core.Path.{_≡_, refl, sym, ap, _∙_}
 use mathlib.Core.Bool.{Bool, true, false, cond}
 use mathlib.Core.List.{List, [], _∷_, _++_, map}
-use mathlib.Core.Logic.{_⊎_, inl, inr, ⊎-elim}
-use native.Mathlib.Decide.{decLt}
+use mathlib.Core.Logic.{⊎-elim}
 use native.Mathlib.Omega.{arith}
-use borrow.Author.Tests.{eq-eqb, ne-eqb, eqb-true, eqb-false}
+use borrow.Author.Tests.{eq-eqb, ne-eqb, eqb-true}
 use lib.Dec.{eqb}
 use lib.ListN.{length, take, drop, getD, length-append, take-append-drop}
-use lib.Seq.{take-at, drop-at, take-all, take-add, getD-drop}
+use lib.Seq.{take-at, drop-at}
+use Rattle.record.specs.Range.{Bytes}
+use Rattle.record.proofs.Laws.{drop-bytes}
 use Rattle.text.specs.Text.{bytes}
 use Rattle.word.specs.Words.{keys, values, words, upper, same, firstWhere, wordOf}
-use Rattle.word.specs.Lookup.{stems, nodes, nodeOf, marked, stretch, keyOf, keyed, placeIn, nextOf}
+use Rattle.word.specs.Lookup.{stems, nodes, nodeOf, marked, stretch, keyOf, placeIn, nextOf}
 use Rattle.word.proofs.Words.{clash, same-eq, same-refl}
-use Rattle.word.proofs.Marked.{Bytes, told}
-use Rattle.word.proofs.First.{Hit, Miss, look, agree, joined}
+use Rattle.word.proofs.Marked.{told}
+use Rattle.word.proofs.First.{look, agree, joined}
 use Rattle.word.proofs.Trie.{Lawful, Node, node-law, node-or-none, few, known}
 
 -- a place in the list of keys is that of the first node that has the key
@@ -23,9 +24,6 @@ placed : (n : ℕ) (ws : List (List ℕ)) (key : ℕ) → placeIn n (map keyOf w
 unfolding placeIn firstWhere
 placed n [] key = refl
 placed n (w ∷ ws) key = rw (placed (suc n) ws key)
-
-drop-bytes : (o : ℕ) (l : List ℕ) → Bytes l → Bytes (drop o l)
-drop-bytes o l h i = rw getD-drop (h (o + i))
 
 -- a node whose beginning is no node is one stretch long
 first-stretch : (w : List ℕ) → Lawful w → nodeOf (take (stretch w) w) ≡ 0 → take (stretch w) w ≡ []

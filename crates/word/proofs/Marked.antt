@@ -1,11 +1,12 @@
 -- Bytes as a number with a mark: one step of the sum, and that the number tells the bytes.
-use Prim.Native.Nat.{ℕ, zero, suc, _+_, _-_, _*_, _^_, _≤_, _<_}
-use mathlib.Core.Path.{_≡_, refl, sym, ap, _∙_}
+use Prim.Native.Nat.{ℕ, suc, _+_, _-_, _*_, _^_, _≤_, _<_}
+use mathlib.Core.Path.{_≡_, refl}
 use mathlib.Core.List.{List, [], _∷_}
 use native.Mathlib.Nat.{pow-suc, pow-le-pow-right}
 use native.Mathlib.Omega.{arith}
 use lib.ListN.{length, take, drop, getD}
 use lib.Seq.{drop-cons}
+use Rattle.record.specs.Range.{Bytes}
 use Rattle.word.specs.Words.{raised, upper}
 use Rattle.word.specs.Lookup.{marked}
 
@@ -32,9 +33,6 @@ five m s h r = bound m 5 s h r
 
 pub six : (m s : ℕ) → m ≤ 6 → s < 2 * 256 ^ m → s < 2 ^ 49
 six m s h r = bound m 6 s h r
-
-abbrev pub Bytes : List ℕ → Type 0
-Bytes l = (i : ℕ) → getD l i 0 < 256
 
 some : (l : List ℕ) → 1 ≤ marked l
 unfolding marked

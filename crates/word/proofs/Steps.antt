@@ -1,7 +1,6 @@
 -- Where a key leads, arm by arm: a key of the list leads to its place, and a key that is none of them leads nowhere.
 use Prim.Native.Nat.{ℕ, suc}
 use mathlib.Core.Path.{_≡_, refl, sym, ap, _∙_}
-use mathlib.Core.Bool.{cond}
 use mathlib.Core.List.{List, [], _∷_}
 use borrow.Author.Tests.{ne-eqb}
 use Rattle.word.specs.Lookup.{placeIn, nextOf}

@@ -1,20 +1,18 @@
 -- Why the nodes lead to the word: a key belongs to one node, which is its stretch set behind the node before it, and
 -- every beginning of a node is a node.
-use Prim.Native.Nat.{ℕ, zero, suc, _+_, _-_, _*_, _/_, _≤_, _<_}
-use mathlib.Core.Path.{_≡_, refl, sym, ap, _∙_}
-use mathlib.Core.Bool.{Bool, true, false, cond, _&&_, _||_, not}
-use mathlib.Core.List.{List, [], _∷_, _++_, map}
+use Prim.Native.Nat.{ℕ, zero, suc, _+_, _*_, _≤_, _<_}
+use mathlib.Core.Path.{_≡_, refl, sym, _∙_}
+use mathlib.Core.Bool.{Bool, true, _&&_, _||_, not}
+use mathlib.Core.List.{List, [], _∷_, map}
 use mathlib.Core.Logic.{_⊎_, inl, inr, ⊎-elim}
-use native.Mathlib.Decide.{decLt}
 use native.Mathlib.Omega.{arith}
-use borrow.Author.Tests.{eq-eqb, ne-eqb, eqb-true, eqb-false, leb-true, lt-leb}
+use borrow.Author.Tests.{eq-eqb, leb-true, lt-leb}
 use lib.Dec.{eqb, leb}
-use lib.ListN.{length, take, drop, getD, length-append, take-append-drop}
-use lib.Seq.{take-at, drop-at, take-all, getD-drop}
-use Rattle.word.specs.Words.{keys, values, words, upper, same, firstWhere, wordOf}
-use Rattle.word.specs.Lookup.{stems, nodes, nodeOf, marked, stretch, keyOf, keyed, placeIn, nextOf}
-use Rattle.word.proofs.Words.{clash, same-eq, same-refl, both}
-use Rattle.word.proofs.Marked.{Bytes, told}
+use lib.ListN.{length, take, getD}
+use Rattle.record.specs.Range.{Bytes}
+use Rattle.word.specs.Words.{keys, values, words, same, firstWhere}
+use Rattle.word.specs.Lookup.{stems, nodes, nodeOf, marked, stretch, keyOf, keyed}
+use Rattle.word.proofs.Words.{clash, same-eq, both}
 use Rattle.word.proofs.First.{look, all, each-of}
 
 bytes-of : List ℕ → Bool

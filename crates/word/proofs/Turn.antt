@@ -1,15 +1,16 @@
 -- One turn of the look-up: the bytes passed are a node, and the next stretch leads to the next node or shows that there is no word.
-use Prim.Native.Nat.{ℕ, zero, suc, _+_, _-_, _*_, _≤_, _<_, min}
-use mathlib.Core.Path.{_≡_, refl, sym, ap, _∙_}
-use mathlib.Core.List.{List, [], _∷_, _++_}
+use Prim.Native.Nat.{ℕ, _+_, _-_, _*_, _≤_, _<_, min}
+use mathlib.Core.Path.{_≡_, sym, ap, _∙_}
+use mathlib.Core.List.{List}
 use native.Mathlib.Decide.{decLt}
 use native.Mathlib.Omega.{arith}
 use lib.ListN.{length, take, drop, getD, length-take, length-drop}
-use lib.Seq.{take-add, take-all, length-take-le, getD-drop}
+use lib.Seq.{take-add, take-all, length-take-le}
+use Rattle.record.specs.Range.{Bytes}
+use Rattle.record.proofs.Laws.{take-bytes, drop-bytes}
 use Rattle.word.specs.Words.{upper}
 use Rattle.word.specs.Lookup.{nodeOf, marked, nextOf}
 use Rattle.word.proofs.Words.{upper-at, raised-small}
-use Rattle.word.proofs.Marked.{Bytes}
 use Rattle.word.proofs.Lead.{Ahead, leads, no-node}
 
 -- the bytes before the place are a node, or none are passed; and before the end a whole number of stretches is passed
@@ -22,12 +23,6 @@ pub record Led (u : List ℕ) (at node : ℕ) : Type 0 where
 
 pub upper-bytes : (s : List ℕ) → Bytes s → Bytes (upper s)
 upper-bytes s h i = rw (upper-at s i) (raised-small (getD s i 0) (h i))
-
-take-bytes : (n : ℕ) (l : List ℕ) → Bytes l → Bytes (take n l)
-take-bytes zero l h i = omega arith
-take-bytes (suc n) [] h i = omega arith
-take-bytes (suc n) (b ∷ l) h zero = h 0
-take-bytes (suc n) (b ∷ l) h (suc i) = take-bytes n l (λ j. h (suc j)) i
 
 module _ (u : List ℕ) (at node : ℕ) (l : Led u at node) (h : at < length u) (bs : Bytes u) (stop : ℕ) (e : stop ≡ min (at + 6) (length u)) where
   next-stretch : List ℕ
@@ -45,7 +40,7 @@ module _ (u : List ℕ) (at node : ℕ) (l : Led u at node) (h : at < length u) 
         whole = length-take-le at u (l .within) ∙ l .whole h;
         some = rw long (omega arith);
         short = rw long (omega arith);
-        bytes = take-bytes (stop - at) (drop at u) (λ i. rw getD-drop (bs (at + i)));
+        bytes = take-bytes (stop - at) (drop at u) (drop-bytes at u bs);
         begun = λ z. rw (l .begun (l .number ∙ z));
       }
 

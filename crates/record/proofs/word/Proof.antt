@@ -1,10 +1,10 @@
 -- `record::word` meets its contract: the sum is the number of the bytes passed, the highest first.
-use Prim.Native.Nat.{ℕ, _+_, _-_, _^_, _≤_, _<_}
-use mathlib.Core.Path.{_≡_, _∙_}
+use Prim.Native.Nat.{_+_, _-_, _^_, _≤_, _<_}
+use mathlib.Core.Path.{_≡_}
 use native.Mathlib.Nat.{add-zero, sub-zero}
 use native.Mathlib.Omega.{arith}
 use borrow.Author.Needs.{needs}
-use lib.ListN.{length, take, drop}
+use lib.ListN.{take, drop}
 use Rattle.record.specs.Little.{number}
 use Rattle.record.proofs.Little.{earlier, wider, seven}
 use Rattle.record.proofs.word.Statement.{statement}

@@ -1,9 +1,9 @@
 -- `word::stretch` meets its contract: the sum is that of the bytes passed, the last first.
-use Prim.Native.Nat.{ℕ, _+_, _-_, _*_, _^_, _≤_, _<_}
-use mathlib.Core.Path.{_≡_, refl, _∙_}
+use Prim.Native.Nat.{_-_, _*_, _^_, _≤_, _<_}
+use mathlib.Core.Path.{_≡_, _∙_}
 use borrow.Author.Needs.{needs}
 use native.Mathlib.Omega.{arith}
-use lib.ListN.{length, take, drop}
+use lib.ListN.{take, drop}
 use Rattle.word.specs.Words.{upper}
 use Rattle.word.specs.Lookup.{marked}
 use Rattle.word.proofs.Marked.{earlier, wider, five, six}

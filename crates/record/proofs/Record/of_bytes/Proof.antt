@@ -1,5 +1,4 @@
 -- `Record::of_bytes` meets its contract: each field is the number that `word` reads at the field's offset.
-use mathlib.Core.Path.{refl}
 use borrow.Author.Needs.{needs}
 use Rattle.record.specs.File.{decoded}
 use Rattle.record.proofs.Record.of_bytes.Statement.{statement}

@@ -1,5 +1,4 @@
 -- `Record::put` meets its contract: the test is that of `hasRoom`, and what `lay` leaves is what `stored` says.
-use mathlib.Core.Path.{_≡_, _∙_}
 use borrow.Author.Needs.{needs}
 use borrow.Author.Tests.{lt-ltb, le-ltb}
 use Rattle.record.specs.File.{stored}

@@ -1,5 +1,5 @@
 -- `Record::read` meets its contract: the test is that of `recordAt`, and the part handed on is the record's 36 bytes.
-use Prim.Native.Nat.{ℕ, _+_, _-_, _*_}
+use Prim.Native.Nat.{_+_, _-_, _*_}
 use mathlib.Core.Path.{_≡_}
 use borrow.Author.Needs.{needs}
 use borrow.Author.Tests.{lt-ltb, le-ltb}
