@@ -8,3 +8,4 @@ pub mod Lines
 pub mod Cleared
 pub mod Answers
 pub mod Edge
+pub mod Kinded

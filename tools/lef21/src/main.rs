@@ -3,8 +3,9 @@
 //!
 //! tokens:   `KIND START STOP LINE` for each token, then `end LINE` or `bad PLACE LINE`
 //! numerals: `- MILLIONTHS`, `+ MILLIONTHS`, or `not` where rust_decimal refuses, or millionths are not whole or too many
+//! outcomes: `read`, or the refusal's number with place and line (`-` where the original gives none)
 //! decimals: the number itself as rust_decimal holds it, `MANTISSA SCALE`, or `refused`
-use lef21::read::LefLexer;
+use lef21::read::{parse_str, LefLexer, LefParseErrorType};
 use lef21::LefError;
 use std::io::{BufRead, Write};
 use std::str::FromStr;
@@ -78,6 +79,31 @@ fn numeral(src: &str) -> String {
     format!("{} {}", if m < 0 { "-" } else { "+" }, m.abs())
 }
 
+/// The refusal that the rules give for an error of the original's.
+fn outcome(src: &str) -> String {
+    let e = match parse_str(src) {
+        Ok(_) => return "read".to_string(),
+        Err(e) => e,
+    };
+    match e {
+        LefError::Lex { line, pos, .. } => format!("3 {} {}", pos, line),
+        LefError::Parse { tp, line_num, pos, .. } => {
+            let n = match tp {
+                LefParseErrorType::InvalidToken { .. } => 4,
+                LefParseErrorType::InvalidKey => 5,
+                LefParseErrorType::InvalidValue => 6,
+                LefParseErrorType::RequiredWord { .. } => 7,
+                LefParseErrorType::Unsupported => 8,
+                LefParseErrorType::Other => panic!("another error"),
+            };
+            format!("{} {} {}", n, pos, line_num)
+        }
+        LefError::Boxed(_) => "9 - -".to_string(),
+        LefError::Str(s) if s.contains("DBU") => "6 - -".to_string(),
+        LefError::Str(_) => "10 - -".to_string(),
+    }
+}
+
 fn decimal(src: &str) -> String {
     match rust_decimal::Decimal::from_str(src) {
         Ok(d) => format!("{} {}", d.mantissa(), d.scale()),
@@ -95,7 +121,8 @@ fn main() {
             "tokens" => tokens(&src),
             "numerals" => numeral(&src),
             "decimals" => decimal(&src),
-            _ => panic!("usage: lef21-oracle tokens | numerals | decimals"),
+            "outcomes" => outcome(&src),
+            _ => panic!("usage: lef21-oracle tokens | numerals | decimals | outcomes"),
         };
         writeln!(out, "{}", said).unwrap();
     }

@@ -1,0 +1,15 @@
+-- `reader::take::expect_ident` meets its contract: the answer of `get_name`, and the bytes of the two tokens, compared.
+use borrow.Author.Needs.{needs}
+use Rattle.reader.specs.Engine.{expect-ident}
+use Rattle.reader.proofs.take.expect_ident.Statement.{statement}
+use Rattle.reader.proofs.take.expect_ident.Tie as tie
+
+pub expect-ident-spec : {M : Type 1} → statement M
+unfolding expect-ident
+expect-ident-spec =
+    tie.close
+    (tie.spec (λ c κs. search needs) (λ c. search needs) (λ c. search needs)
+    (λ c. simp (c .enum-told .given .1, ← (c .before .before .get-name .ensures)))
+    (λ c κs. search needs) (λ c κs. search needs) (λ c κs. search needs) (λ c κs. search needs)
+    (λ c. simp (c .if1 .taken, ← (rw (c .before .before .txt2 .ensures, c .before .before .before .txt .ensures) at (c .before .same-bytes .ensures)), c .before .before .before .before .before .answer .given .1, ← (c .before .before .before .before .before .before .before .get-name .ensures)))
+    (λ c. simp (c .complain .ensures, c .before .if1 .left, ← (rw (c .before .before .before .txt2 .ensures, c .before .before .before .before .txt .ensures) at (c .before .before .same-bytes .ensures)), c .before .before .before .before .before .before .answer .given .1, ← (c .before .before .before .before .before .before .before .before .get-name .ensures))))
