@@ -4,4 +4,8 @@ pub mod Kept
 pub mod Turned
 pub mod Rises
 pub mod Places
+pub mod Every
+pub mod Codes
+pub mod Listed
+pub mod Ranges
 pub mod Ahead

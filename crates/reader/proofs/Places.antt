@@ -60,7 +60,7 @@ module _ (P : List (Rec ℕ) → Type 0) (Q : List Record → Type 0) (f : (rs :
         go (Screened.Refused r) = tt
         go Screened.Clear = ahead-law (ahead s (from s 0 1)) h
 
-    of-reading : (rs : List Record) → reading s ≡ records rs → Q rs
+    pub of-reading : (rs : List Record) → reading s ≡ records rs → Q rs
     of-reading rs e = rw e at reading-law
 
 -- PLACES: the records of a text stand one after the other, and within it

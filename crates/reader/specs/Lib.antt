@@ -7,3 +7,4 @@ pub mod Reading
 pub mod Examples
 pub mod Code
 pub mod Standing
+pub mod Listed
