@@ -11,10 +11,11 @@ use Rattle.lexer.specs.Kinds as Kind
 use Rattle.word.specs.Words.{wordOf, word, isKey}
 use Rattle.word.proofs.Words.{both}
 use Rattle.reader.specs.Tokens.{Tok, Ahead, Answer, ok, refused, then, take, matches}
-use Rattle.reader.specs.Grammar.{Block, Library, Units, Site, Symmetry, Macro, Pin, Port, Obs, Options, Layer, Rect, Polygon, Path, Item, semi, whole, Move, stay, leave, Act, statement, refuse, back, upTo54, Row, Body, keyed, worded, options, parts, counted}
+use Rattle.reader.specs.Grammar.{Block, Item, semi, whole, Move, stay, leave, Act, statement, refuse, back, upTo54, Row, Body, keyed, worded, options, parts, counted}
 use Rattle.reader.specs.Table.{body}
 use Rattle.reader.specs.Engine.{Rec, Draft, Frame, blank, get-name, items, empty}
 use Rattle.reader.specs.Turns.{State, Turn, emit, moved, done, halted, shift, settle, finish, actFor, perform, peek-key, judged, become, inBody, Outcome, read, stopped, more, turn, turns}
+use Rattle.reader.proofs.Blocks.{at-block}
 use Rattle.reader.proofs.Takes.{ranged, Under, under-then, under-more, take-under, expect-under, takes, numbered, all-numbered, eager, items-under, eager-under, whole-under}
 
 -- WHAT THE TABLE MUST SAY: a part begins with an item that takes, and a number is that of a refusal
@@ -38,19 +39,7 @@ sound (counted k is) = eager is && all-numbered is
 
 pub all-sound : (b : Block) → sound (body b) ≡ true
 unfolding sound sound-rows sound-act eager takes all-numbered numbered
-all-sound Library = refl
-all-sound Units = refl
-all-sound Site = refl
-all-sound Symmetry = refl
-all-sound Macro = refl
-all-sound Pin = refl
-all-sound Port = refl
-all-sound Obs = refl
-all-sound Options = refl
-all-sound Layer = refl
-all-sound Rect = refl
-all-sound Polygon = refl
-all-sound Path = refl
+all-sound = at-block sound refl
 
 act-sound : (n k : ℕ) (rows : List Row) → ranged n ≡ true → sound-rows rows ≡ true → sound-act (actFor n k rows) ≡ true
 unfolding actFor sound-rows sound-act

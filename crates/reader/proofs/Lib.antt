@@ -1,3 +1,4 @@
+pub mod Blocks
 pub mod Takes
 pub mod Falls
 pub mod Kept

@@ -19,12 +19,13 @@ use Rattle.word.specs.Words.{keys, values, words, raised, upper, same, firstWhe
 use Rattle.word.specs.Codes.{onOff, siteClasses, symmetries, macroClasses, directions, uses, shapes, antennaModels, antennaKeys, portClasses, layerOptions, valuesOf, placeOf, codeOf}
 use Rattle.word.proofs.Words.{both}
 use Rattle.reader.specs.Tokens.{Ahead, Answer, ok, then, complain, matches, expect}
-use Rattle.reader.specs.Grammar.{Block, Library, Units, Site, Symmetry, Macro, Pin, Port, Obs, Options, Layer, Rect, Polygon, Path, Item, key, keyword, name, own, x, y, semi, value, first, firstKey, second, string, code, ifMore, noName, among, whole}
+use Rattle.reader.specs.Grammar.{Block, Item, key, keyword, name, own, x, y, semi, value, first, firstKey, second, string, code, ifMore, noName, among, whole}
 use Rattle.reader.specs.Table.{body}
 use Rattle.reader.specs.Engine.{Rec, Draft, Frame, blank, setCode, setFirst, get-name, get-key, expect-key, expect-keyword, expect-ident, valued, parse-number, parse-enum, begins, goesOn, parse-second, empty, member, item, passed, items}
 use Rattle.reader.specs.Reading.{Mark, records, reading}
 use Rattle.reader.specs.Listed.{kindCodes, allows, listed, Stored}
 use Rattle.reader.specs.Standing.{Every}
+use Rattle.reader.proofs.Blocks.{at-block}
 use Rattle.reader.proofs.Every.{Holds, Kept, holds-then, holds-after, holds-cond, fit-act, fit-rows, fit-body, Given, every}
 use Rattle.reader.proofs.Codes.{pairs, Coded, goes, keyed-seconds, value-coded, second-coded, valuable, coded-listed}
 
@@ -113,19 +114,7 @@ fit k is = settles k 0 (stage (listed k 0)) is
 
 all-fit : (b : Block) → fit-body fit (body b) ≡ true
 unfolding fit-body fit-rows fit-act fit settles ended skip after closed valuable pairs keyed-seconds goes listed kindCodes allows keys values words raised upper same firstWhere wordOf onOff siteClasses symmetries macroClasses directions uses shapes antennaModels antennaKeys portClasses layerOptions valuesOf placeOf codeOf goesOn
-all-fit Library = refl
-all-fit Units = refl
-all-fit Site = refl
-all-fit Symmetry = refl
-all-fit Macro = refl
-all-fit Pin = refl
-all-fit Port = refl
-all-fit Obs = refl
-all-fit Options = refl
-all-fit Layer = refl
-all-fit Rect = refl
-all-fit Polygon = refl
-all-fit Path = refl
+all-fit = at-block (fit-body fit) refl
 
 passed-either : {A M : Type 0} (i : Item) (a : Ahead A M) (Q : ℕ → Type 0) → Q 0 → Q (skip i) → Q (passed i a)
 unfolding skip

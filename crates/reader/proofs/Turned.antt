@@ -9,10 +9,11 @@ use lib.Dec.{leb, eqb}
 use Rattle.lexer.specs.Kinds as Kind
 use Rattle.word.specs.Words.{wordOf, word, isKey}
 use Rattle.reader.specs.Tokens.{Tok, Ahead, Answer, ok, refused, then, take, matches}
-use Rattle.reader.specs.Grammar.{Block, Library, Units, Site, Symmetry, Macro, Pin, Port, Obs, Options, Layer, Rect, Polygon, Path, Item, semi, whole, Move, stay, leave, enter, named, version, Act, statement, refuse, back, upTo54, Row, Body, keyed, worded, options, parts, counted}
+use Rattle.reader.specs.Grammar.{Block, Item, semi, whole, Move, stay, leave, enter, named, version, Act, statement, refuse, back, upTo54, Row, Body, keyed, worded, options, parts, counted}
 use Rattle.reader.specs.Table.{body}
 use Rattle.reader.specs.Engine.{Maybe, some, Rec, Draft, Frame, blank, get-name, items, empty}
 use Rattle.reader.specs.Turns.{State, Turn, emit, moved, done, halted, shift, state, settle, finish, actFor, perform, peek-key, judged, become, inBody, Outcome, read, stopped, more, turn, turns}
+use Rattle.reader.proofs.Blocks.{at-block}
 use Rattle.reader.proofs.Takes.{takes, eager}
 use Rattle.reader.proofs.Kept.{Suf, here, there, all, Named, Ok, ok-then, ok-map, Taken, take-taken, expect-taken, Kept, unchanged, further, items-kept, opening-kept, semi-kept, whole-kept}
 
@@ -57,19 +58,7 @@ sound (counted k is) = eager is
 
 all-sound : (b : Block) → sound (body b) ≡ true
 unfolding allTidy takes eager
-all-sound Library = refl
-all-sound Units = refl
-all-sound Site = refl
-all-sound Symmetry = refl
-all-sound Macro = refl
-all-sound Pin = refl
-all-sound Port = refl
-all-sound Obs = refl
-all-sound Options = refl
-all-sound Layer = refl
-all-sound Rect = refl
-all-sound Polygon = refl
-all-sound Path = refl
+all-sound = at-block sound refl
 
 both : (c d : Bool) → c && d ≡ true → (c ≡ true) × (d ≡ true)
 both true d e = (refl, e)
