@@ -10,3 +10,5 @@ pub mod Codes
 pub mod Listed
 pub mod Ranges
 pub mod Ahead
+pub mod Items
+pub mod Second

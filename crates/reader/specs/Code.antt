@@ -14,7 +14,12 @@ use Rattle.reader.specs.declared.take.Number.{Number}
 use Rattle.reader.specs.declared.take.Number.the-variants as N
 use Rattle.reader.specs.declared.take.Word.{Word}
 use Rattle.reader.specs.declared.take.Word.the-variants as W
-use Rattle.reader.specs.Tokens.{Tok, Ahead, Answer, ok, refused, end}
+use Rattle.reader.specs.declared.statement.Point.{Point}
+use Rattle.reader.specs.declared.statement.Point.the-variants as P
+use Rattle.reader.specs.Tokens.{Tok, Ahead, Answer, ok, refused, then, end}
+use Rattle.reader.specs.Tokens.{take as taking}
+use Rattle.reader.specs.Grammar.{Item}
+use Rattle.reader.specs.Engine.{Rec, Frame, Draft, setX, setY, setCode, setFirst, items}
 use Rattle.reader.specs.Reading.{Mark, tok}
 
 -- the bytes of a token
@@ -56,3 +61,42 @@ asWord s (W.Refused r) = refuse r
 abbrev pub whyTaken : Taken → Refusal
 whyTaken (T.Next t) = complaint 0 t
 whyTaken (T.Refused r) = r
+
+abbrev pub whyNumber : Number → Refusal
+whyNumber (N.Value v t) = complaint 0 t
+whyNumber (N.Refused r) = r
+
+abbrev pub whyWord : Word → Refusal
+whyWord (W.Is k t) = complaint 0 t
+whyWord (W.Refused r) = r
+
+-- STATEMENTS
+
+-- a statement whose word is held: the word is taken, then the items
+abbrev pub afterWord : List Item → Frame ℕ → Draft ℕ → Ahead ℕ Mark → Answer ℕ Mark (Draft ℕ)
+afterWord is f d a = then (taking a) (λ t b. items 0 f is d b)
+
+-- what the statements' answers set in the draft d
+abbrev pub asX : List ℕ → Draft ℕ → Number → Answer ℕ Mark (Draft ℕ)
+asX s d (N.Value v t) = ok (setX v d) (aheadOf s t)
+asX s d (N.Refused r) = refuse r
+
+abbrev pub asXY : List ℕ → Draft ℕ → Point → Answer ℕ Mark (Draft ℕ)
+asXY s d (P.At v w t) = ok (setY w (setX v d)) (aheadOf s t)
+asXY s d (P.Refused r) = refuse r
+
+abbrev pub asCode : List ℕ → Draft ℕ → Word → Answer ℕ Mark (Draft ℕ)
+asCode s d (W.Is c t) = ok (setCode c d) (aheadOf s t)
+asCode s d (W.Refused r) = refuse r
+
+abbrev pub asFirst : List ℕ → Draft ℕ → Word → Answer ℕ Mark (Draft ℕ)
+asFirst s d (W.Is w t) = ok (setFirst w d) (aheadOf s t)
+asFirst s d (W.Refused r) = refuse r
+
+-- of a value of one word or two only the record counts, which has the code
+abbrev pub recordAfter : List Item → Frame ℕ → Draft ℕ → Ahead ℕ Mark → Answer ℕ Mark (Rec ℕ)
+recordAfter is f d a = then (afterWord is f d a) (λ e b. ok (e .rec) b)
+
+abbrev pub asRec : List ℕ → Draft ℕ → Word → Answer ℕ Mark (Rec ℕ)
+asRec s d (W.Is c t) = ok (setCode c d .rec) (aheadOf s t)
+asRec s d (W.Refused r) = refuse r
