@@ -14,7 +14,7 @@ use Rattle.word.proofs.Words.{both}
 use Rattle.reader.specs.Tokens.{Ahead, ok, then, complain, matches}
 use Rattle.reader.specs.Engine.{get-name, get-key, expect-key, parse-enum, begins, goesOn, secondKey, parse-second}
 use Rattle.reader.specs.Listed.{Codes, kindCodes, allows, listed}
-use Rattle.reader.proofs.Every.{Holds, holds-then, holds-after, holds-cond}
+use Rattle.reader.proofs.Answers.{Holds, holds-then, holds-after, holds-cond}
 
 -- how many values a list has, two numbers for each
 unfoldable pub pairs : List ℕ → ℕ

@@ -1,54 +1,20 @@
 -- The reading never stops short: every turn that goes on has taken a token, so as many turns as there are tokens suffice.
 use Prim.Native.Nat.{ℕ, zero, suc, _≤_, _<_}
 use mathlib.Core.Path.{_≡_, refl, ap, subst, _∙_}
-use mathlib.Core.Bool.{Bool, true, false, cond, _&&_}
+use mathlib.Core.Bool.{true}
 use mathlib.Core.List.{List, [], _∷_}
 use native.Mathlib.Omega.{arith}
 use borrow.Author.Tests.{leb-true}
-use lib.Dec.{leb, eqb}
+use lib.Dec.{leb}
 use lib.ListN.{length}
-use Rattle.lexer.specs.Kinds as Kind
-use Rattle.word.specs.Words.{wordOf, word, isKey}
 use Rattle.word.proofs.Words.{both}
-use Rattle.reader.specs.Tokens.{Tok, Ahead, Answer, ok, refused, then, take, matches}
-use Rattle.reader.specs.Grammar.{Block, Item, semi, whole, Move, stay, leave, Act, statement, refuse, back, upTo54, Row, Body, keyed, worded, options, parts, counted}
+use Rattle.reader.specs.Tokens.{Ahead}
 use Rattle.reader.specs.Table.{body}
-use Rattle.reader.specs.Engine.{Rec, Draft, Frame, blank, get-name, items, empty}
-use Rattle.reader.specs.Turns.{State, Turn, emit, moved, done, halted, shift, settle, finish, actFor, perform, peek-key, judged, become, inBody, Outcome, read, stopped, more, turn, turns}
-use Rattle.reader.proofs.Blocks.{at-block}
-use Rattle.reader.proofs.Takes.{ranged, Under, under-then, under-more, take-under, expect-under, takes, numbered, all-numbered, eager, items-under, eager-under, whole-under}
-
--- WHAT THE TABLE MUST SAY: a part begins with an item that takes, and a number is that of a refusal
-
-unfoldable pub sound-act : Act → Bool
-sound-act (statement k is m) = all-numbered is
-sound-act (refuse n) = ranged n
-sound-act back = true
-sound-act (upTo54 act) = sound-act act
-
-unfoldable pub sound-rows : List Row → Bool
-sound-rows [] = true
-sound-rows (w ∷ ws) = sound-act (w .act) && sound-rows ws
-
-unfoldable pub sound : Body → Bool
-sound (keyed n rows) = ranged n && sound-rows rows
-sound (worded rows) = sound-rows rows
-sound (options rows b) = sound-rows rows
-sound (parts k is) = eager is && all-numbered is
-sound (counted k is) = eager is && all-numbered is
-
-pub all-sound : (b : Block) → sound (body b) ≡ true
-unfolding sound sound-rows sound-act eager takes all-numbered numbered
-all-sound = at-block sound refl
-
-act-sound : (n k : ℕ) (rows : List Row) → ranged n ≡ true → sound-rows rows ≡ true → sound-act (actFor n k rows) ≡ true
-unfolding actFor sound-rows sound-act
-act-sound n k [] r s = r
-act-sound n k (w ∷ ws) r s = let h = both (sound-act (w .act)) (sound-rows ws) s in go (eqb (word (w .begin)) k) (h .0) (act-sound n k ws r (h .1))
-  where
-    go : (c : Bool) → sound-act (w .act) ≡ true → sound-act (actFor n k ws) ≡ true → sound-act (cond c (w .act) (actFor n k ws)) ≡ true
-    go true p q = p
-    go false p q = q
+use Rattle.reader.specs.Engine.{Rec, Frame}
+use Rattle.reader.specs.Turns.{State, Turn, emit, moved, done, halted, Outcome, read, stopped, more, turn, turns}
+use Rattle.reader.proofs.Answers.{ranged}
+use Rattle.reader.proofs.Kept.{Suf, here, there}
+use Rattle.reader.proofs.Turned.{Whole, turn-whole}
 
 -- A TURN
 
@@ -59,64 +25,18 @@ Less n (moved s b) = length (b .rest) < n
 Less n done = Unit {0}
 Less n (halted k p) = ranged k ≡ true
 
-module _ {A M : Type 0} where
-  less-cond : {R : Type 0} (n : ℕ) (c : Bool) (t u : Turn A M R) → Less n t → Less n u → Less n (cond c t u)
-  less-cond n true t u p q = p
-  less-cond n false t u p q = q
-
-  settle-less : (n k : ℕ) (r : Rec A) (v : ℕ) (fs : List (Frame A)) (a : Ahead A M) → length (a .rest) < n → Less n (settle k r v fs a)
-  settle-less n (suc k) r v fs a h = h
-  settle-less n zero r v [] a h = tt
-  settle-less n zero r v (f ∷ fs) a h = h
-
-  finish-less : (n : ℕ) (m : Move) (v : ℕ) (f : Frame A) (fs : List (Frame A)) (t : Answer A M (Draft A)) → Under n t → Less n (finish m v f fs t)
-  finish-less n m v f fs (ok d a) h = let s = shift m (d .rec) v f fs in settle-less n (d .rec .kind) (d .rec) (s .version) (s .blocks) a h
-  finish-less n m v f fs (refused k p) h = h
-
--- a turn in the block f, where a turn in the blocks around it is `outer`
-module _ {A M : Type 0} (v : ℕ) (f : Frame A) (fs : List (Frame A)) (outer : Ahead A M → Turn A M (Rec A)) (o : (a : Ahead A M) → Less (length (a .rest)) (outer a)) (a : Ahead A M) where
-  perform-less : (taken : Answer A M (Tok A M)) → Under (length (a .rest)) taken → (p : M) (act : Act) → sound-act act ≡ true → Less (length (a .rest)) (perform v f fs outer a taken p act)
-  unfolding perform sound-act
-  perform-less taken u p (statement k is m) s = finish-less _ m v f fs (then taken (λ t b. items 0 f is (blank k f a) b))
-      (under-then (length (a .rest)) _ taken (λ t b. items 0 f is (blank k f a) b) u
-      (λ t b l. under-more (suc (length (b .rest))) _ l (items 0 f is (blank k f a) b) (items-under f 0 is s (blank k f a) b)))
-  perform-less taken u p (refuse n) s = s
-  perform-less taken u p back s = o a
-  perform-less taken u p (upTo54 act) s = less-cond _ (leb v 5400000) (perform v f fs outer a taken p act) (halted 5 p) (perform-less taken u p act s) refl
-
-  judged-less : (rows : List Row) → sound-rows rows ≡ true → (taken : Answer A M (Tok A M)) → Under (length (a .rest)) taken → Less (length (a .rest)) (judged v f fs outer a rows taken)
-  judged-less rows s (ok t b) u = perform-less (ok t b) u (b .held .mark) (actFor 5 (wordOf (t .bytes)) rows) (act-sound 5 (wordOf (t .bytes)) rows refl s)
-  judged-less rows s (refused n p) u = u
-
-  become-less : (b : Block) (taken : Answer A M (Tok A M)) → Under (length (a .rest)) taken → Less (length (a .rest)) (become b v f fs taken)
-  become-less b (ok t c) u = u
-  become-less b (refused n p) u = u
-
-  part-less : (k : ℕ) (is : List Item) → (eager is && all-numbered is) ≡ true → Less (length (a .rest)) (finish stay v f fs (items 0 f is (blank k f a) a))
-  part-less k is s = let h = both (eager is) (all-numbered is) s in
-      finish-less _ stay v f fs (items 0 f is (blank k f a) a) (eager-under f is (h .0) (h .1) (blank k f a) a)
-
-  body-less : (b : Body) → sound b ≡ true → Less (length (a .rest)) (inBody v f fs outer a b)
-  unfolding inBody peek-key sound eager takes all-numbered numbered
-  body-less (keyed n rows) s = let h = both (ranged n) (sound-rows rows) s in let w = wordOf (a .held .bytes) in
-      less-cond _ (matches Kind.name a) _ (halted 4 (a .held .mark))
-      (less-cond _ (isKey w) (perform v f fs outer a (take a) (a .held .mark) (actFor n w rows)) (halted 5 (a .held .mark))
-      (perform-less (take a) (take-under a) (a .held .mark) (actFor n w rows) (act-sound n w rows (h .0) (h .1))) refl) refl
-  body-less (worded rows) s = judged-less rows s (get-name a) (expect-under Kind.name a)
-  body-less (options rows b) s =
-      less-cond _ (matches Kind.semicolon a) (become b v f fs (take a)) (judged v f fs outer a rows (get-name a))
-      (become-less b (take a) (take-under a)) (judged-less rows s (get-name a) (expect-under Kind.name a))
-  body-less (parts k is) s =
-      less-cond _ (matches Kind.semicolon a) (finish leave v f fs (items 0 f (whole 6 ∷ semi ∷ []) (blank 0 f a) a)) (finish stay v f fs (items 0 f is (blank k f a) a))
-      (finish-less _ leave v f fs (items 0 f (whole 6 ∷ semi ∷ []) (blank 0 f a) a) (whole-under f 6 refl (blank 0 f a) a)) (part-less k is s)
-  body-less (counted k is) s =
-      less-cond _ (empty (f .lacks)) (finish leave v f fs (items 0 f (semi ∷ []) (blank 0 f a) a)) (finish stay v f fs (items 0 f is (blank k f a) a))
-      (finish-less _ leave v f fs (items 0 f (semi ∷ []) (blank 0 f a) a) (eager-under f (semi ∷ []) refl refl (blank 0 f a) a)) (part-less k is s)
+suf-less : {B : Type 0} {b : B} {k l : List B} → Suf (b ∷ k) l → length k < length l
+suf-less here = omega arith
+suf-less (there s) = omega (arith, suf-less s)
 
 pub turn-less : {A M : Type 0} (v : ℕ) (fs : List (Frame A)) (a : Ahead A M) → Less (length (a .rest)) (turn body v fs a)
-unfolding turn
-turn-less v [] a = tt
-turn-less v (f ∷ fs) a = body-less v f fs (turn body v fs) (turn-less v fs) a (body (f .block)) (all-sound (f .block))
+turn-less {A} {M} v fs a = go (turn body v fs a) (turn-whole v fs a)
+  where
+    go : (t : Turn A M (Rec A)) → Whole (λ r. Unit {0}) fs a t → Less (length (a .rest)) t
+    go (emit r s b) h = suf-less (h .0 .ahead)
+    go (moved s b) h = suf-less (h .ahead)
+    go done h = tt
+    go (halted n p) h = h
 
 -- THE READING WITHOUT A COUNT OF TURNS
 

@@ -1,8 +1,8 @@
--- What the items of a statement keep: they set neither place nor owner nor kind, they name by a token ahead, and what is ahead
--- after them ends what was ahead before.
+-- What the items of a statement keep, by the cases of each taker: they set neither place nor owner, they name by a token ahead,
+-- what is ahead after them ends what was ahead before, and a refusal is one of 3 to 10.
 use Prim.Native.Nat.{ℕ, zero, suc, _+_}
 use mathlib.Core.Path.{_≡_, refl, _∙_}
-use mathlib.Core.Bool.{Bool, true, false, cond, not, _&&_, _||_}
+use mathlib.Core.Bool.{Bool, true, false, cond, not, _&&_, _||_, false≢true}
 use mathlib.Core.Logic.{_⊎_, inl, inr}
 use mathlib.Core.List.{List, [], _∷_, List·Memᴰ, List·Memᴰ·head, List·Memᴰ·tail}
 use borrow.Author.Tests.{eqb-true}
@@ -14,10 +14,12 @@ use Rattle.numeral.specs.declared.Value.the-variants.{Scaled, Not}
 use Rattle.numeral.specs.Numeral.{numeralOf}
 use Rattle.word.specs.Words.{same, wordOf, word, isKey}
 use Rattle.word.specs.Codes.{codeOf, valuesOf}
-use Rattle.reader.specs.Tokens.{Tok, Ahead, Answer, ok, refused, then, complain, next, take, matches, expect, bad}
+use Rattle.word.proofs.Words.{both}
+use Rattle.reader.specs.Tokens.{Tok, Ahead, Answer, ok, then, complain, next, take, matches, expect, bad}
 use Rattle.reader.specs.Grammar.{Item, key, keyword, name, own, x, y, semi, value, first, firstKey, second, string, code, ifMore, noName, among, whole}
 use Rattle.reader.specs.Engine.{Maybe, none, some, Name, Draft, Frame, setCode, setName, setX, setY, get-name, get-key, expect-key, expect-keyword, expect-ident, valued, parse-number, parse-enum, begins, goesOn, secondKey, parse-second, empty, member, nameOf, insideOf, item, passed, items}
-use Rattle.reader.proofs.Takes.{takes}
+use Rattle.reader.proofs.Answers.{ranged, Ok, ok-then, ok-map, ok-cond, ok-when}
+use Rattle.reader.proofs.Takes.{takes, numbered, all-numbered, eager}
 
 -- the first list ends the second
 pub data Suf {B : Type 0} : List B → List B → Type 0 where
@@ -45,28 +47,6 @@ abbrev pub Named : {A M : Type 0} → List (Tok A M) → Maybe (Name A) → Type
 Named l none = Unit {0}
 Named {A = A} {M = M} l (some n) = (t : Tok A M) × List·Memᴰ t l × From t n
 
--- what holds of an answer that is no refusal
-abbrev pub Ok : {A M B : Type 0} → (B → Ahead A M → Type 0) → Answer A M B → Type 0
-Ok Q (ok v b) = Q v b
-Ok Q (refused n m) = Unit {0}
-
-pub ok-then : {A M B C : Type 0} (Q : B → Ahead A M → Type 0) (S : C → Ahead A M → Type 0) (t : Answer A M B) (k : B → Ahead A M → Answer A M C)
-    → Ok Q t → ((v : B) (b : Ahead A M) → Q v b → Ok S (k v b)) → Ok S (then t k)
-ok-then Q S (ok v b) k h f = f v b h
-ok-then Q S (refused n m) k h f = tt
-
-pub ok-map : {A M B : Type 0} (Q S : B → Ahead A M → Type 0) (t : Answer A M B) → ((v : B) (b : Ahead A M) → Q v b → S v b) → Ok Q t → Ok S t
-ok-map Q S (ok v b) f h = f v b h
-ok-map Q S (refused n m) f h = tt
-
-ok-cond : {A M B : Type 0} (Q : B → Ahead A M → Type 0) (c : Bool) (t u : Answer A M B) → Ok Q t → Ok Q u → Ok Q (cond c t u)
-ok-cond Q true t u h k = h
-ok-cond Q false t u h k = k
-
-ok-when : {A M B : Type 0} (Q : B → Ahead A M → Type 0) (c : Bool) (t u : Answer A M B) → (c ≡ true → Ok Q t) → Ok Q u → Ok Q (cond c t u)
-ok-when Q true t u h k = h refl
-ok-when Q false t u h k = k
-
 -- TAKERS: what is ahead after them ends what was ahead after the token held
 
 module _ {A M : Type 0} where
@@ -83,15 +63,15 @@ module _ {A M : Type 0} where
 
   next-taken : (t : Tok A M) (l : List (Tok A M)) → Ok (λ v b. (v ≡ t) × Suf (all b) l) (next t l)
   unfolding next
-  next-taken t [] = tt
-  next-taken t (n ∷ r) = ok-cond _ (eqb (n .kind) bad) _ _ tt (refl, here)
+  next-taken t [] = refl
+  next-taken t (n ∷ r) = ok-cond _ (eqb (n .kind) bad) _ _ refl (refl, here)
 
   pub take-taken : (a : Ahead A M) → Ok (Taken a) (take a)
   take-taken a = next-taken (a .held) (a .rest)
 
   pub expect-taken : (k : ℕ) (a : Ahead A M) → Ok (Taken a) (expect k a)
   unfolding expect
-  expect-taken k a = ok-then (Taken a) (Taken a) (take a) _ (take-taken a) (λ t b h. ok-cond (Taken a) (eqb (t .kind) k) _ _ h tt)
+  expect-taken k a = ok-then (Taken a) (Taken a) (take a) _ (take-taken a) (λ t b h. ok-cond (Taken a) (eqb (t .kind) k) _ _ h refl)
 
   -- a taker that looks at the token it takes
   looks : {B : Type 0} (k : ℕ) (a : Ahead A M) (f : Tok A M → Ahead A M → Answer A M B)
@@ -100,23 +80,23 @@ module _ {A M : Type 0} where
 
   key-past : (a : Ahead A M) → Ok (Past a) (get-key a)
   unfolding get-key
-  key-past a = looks Kind.name a _ (λ t b h. ok-cond (Past a) (isKey (wordOf (t .bytes))) _ _ h tt)
+  key-past a = looks Kind.name a _ (λ t b h. ok-cond (Past a) (isKey (wordOf (t .bytes))) _ _ h refl)
 
   this-key-past : (k : ℕ) (a : Ahead A M) → Ok (Past a) (expect-key k a)
   unfolding expect-key
-  this-key-past k a = ok-then (Past a) (Past a) (get-key a) _ (key-past a) (λ w b h. ok-cond (Past a) (eqb w k) _ _ h tt)
+  this-key-past k a = ok-then (Past a) (Past a) (get-key a) _ (key-past a) (λ w b h. ok-cond (Past a) (eqb w k) _ _ h refl)
 
   keyword-past : (k : ℕ) (a : Ahead A M) → Ok (Past a) (expect-keyword k a)
   unfolding expect-keyword
-  keyword-past k a = looks Kind.name a _ (λ t b h. ok-cond (Past a) (eqb (wordOf (t .bytes)) k) _ _ h tt)
+  keyword-past k a = looks Kind.name a _ (λ t b h. ok-cond (Past a) (eqb (wordOf (t .bytes)) k) _ _ h refl)
 
   ident-past : (l : List ℕ) (a : Ahead A M) → Ok (Past a) (expect-ident l a)
   unfolding expect-ident
-  ident-past l a = looks Kind.name a _ (λ t b h. ok-cond (Past a) (same (t .bytes) l) _ _ h tt)
+  ident-past l a = looks Kind.name a _ (λ t b h. ok-cond (Past a) (same (t .bytes) l) _ _ h refl)
 
   valued-past : (a b : Ahead A M) → Suf (all b) (a .rest) → (v : Value) → Ok (Past a) (valued v b)
   valued-past a b h (Scaled g m) = h
-  valued-past a b h Not = tt
+  valued-past a b h Not = refl
 
   number-past : (a : Ahead A M) → Ok (Past a) (parse-number a)
   unfolding parse-number
@@ -124,7 +104,7 @@ module _ {A M : Type 0} where
 
   enum-past : (f : ℕ → ℕ) (a : Ahead A M) → Ok (Past a) (parse-enum f a)
   unfolding parse-enum
-  enum-past f a = looks Kind.name a _ (λ t b h. ok-cond (Past a) (eqb (f (wordOf (t .bytes))) 0) _ _ tt h)
+  enum-past f a = looks Kind.name a _ (λ t b h. ok-cond (Past a) (eqb (f (wordOf (t .bytes))) 0) _ _ refl h)
 
   -- the second word need not be there
   second-past : (k w : ℕ) (a : Ahead A M) → Ok (Ends a) (parse-second k w a)
@@ -138,12 +118,11 @@ module _ {A M : Type 0} where
 -- ITEMS
 
 module _ {A M : Type 0} where
-  -- The draft e, with b ahead, comes of d, with a ahead: place, owner and kind are kept, the name is that of d or of a token
-  -- ahead, and what is then ahead ends l.
+  -- The draft e, with b ahead, comes of d, with a ahead: place and owner are kept, the name is that of d or of a token ahead,
+  -- and what is then ahead ends l.
   pub record Kept (d : Draft A) (a : Ahead A M) (l : List (Tok A M)) (e : Draft A) (b : Ahead A M) : Type 0 where
     pub at : e .rec .at ≡ d .rec .at
     pub owner : e .rec .owner ≡ d .rec .owner
-    pub kind : e .rec .kind ≡ d .rec .kind
     pub name : (ts : List (Tok A M)) → Suf (all a) ts → Named ts (d .rec .name) → Named ts (e .rec .name)
     pub ahead : Suf (all b) l
 
@@ -153,53 +132,52 @@ module _ {A M : Type 0} where
   to false a = all a
 
   same-name : {d e : Draft A} {a b : Ahead A M} {l : List (Tok A M)}
-      → e .rec .at ≡ d .rec .at → e .rec .owner ≡ d .rec .owner → e .rec .kind ≡ d .rec .kind → e .rec .name ≡ d .rec .name → Suf (all b) l → Kept d a l e b
-  same-name p q r n h = record { at = p; owner = q; kind = r; name = λ ts s g. rw n g; ahead = h }
+      → e .rec .at ≡ d .rec .at → e .rec .owner ≡ d .rec .owner → e .rec .name ≡ d .rec .name → Suf (all b) l → Kept d a l e b
+  same-name p q n h = record { at = p; owner = q; name = λ ts s g. rw n g; ahead = h }
 
-  pub unchanged : (d : Draft A) {a b : Ahead A M} {l : List (Tok A M)} → Suf (all b) l → Kept d a l d b
-  unchanged d h = same-name refl refl refl refl h
+  unchanged : (d : Draft A) {a b : Ahead A M} {l : List (Tok A M)} → Suf (all b) l → Kept d a l d b
+  unchanged d h = same-name refl refl refl h
 
   -- a token taken gives the name
   new-name : (d : Draft A) (n : Name A) {a b : Ahead A M} {t : Tok A M} → From t n → Taken a t b → Kept d a (a .rest) (setName n d) b
-  new-name d n {t = t} f h = record { at = refl; owner = refl; kind = refl; name = λ ts s g. (t, rw (h .0) (suf-member s), f); ahead = h .1 }
+  new-name d n {t = t} f h = record { at = refl; owner = refl; name = λ ts s g. (t, rw (h .0) (suf-member s), f); ahead = h .1 }
 
   module _ (f : Frame A) (d : Draft A) (a : Ahead A M) where
     from-taker : {B : Type 0} (t : Answer A M B) (g : B → Draft A) → Ok (Past a) t
         → ((v : B) (b : Ahead A M) → Suf (all b) (a .rest) → Kept d a (a .rest) (g v) b) → Ok (Kept d a (a .rest)) (then t (λ v b. ok (g v) b))
     from-taker t g h k = ok-then (Past a) (Kept d a (a .rest)) t _ h k
 
-    item-kept : (i : Item) → Ok (Kept d a (to (takes i) a)) (item f i d a)
-    unfolding item takes
-    item-kept (key w) = from-taker (expect-key (word w) a) (λ v. d) (this-key-past (word w) a) (λ v b h. unchanged d h)
-    item-kept (keyword w) = from-taker (expect-keyword (word w) a) (λ v. d) (keyword-past (word w) a) (λ v b h. unchanged d h)
-    item-kept name = ok-then (Taken a) (Kept d a (a .rest)) (get-name a) _ (expect-taken Kind.name a) (λ t b h. new-name d (nameOf t) (inl refl) h)
-    item-kept own = from-taker (expect-ident (f .label) a) (λ v. d) (ident-past (f .label) a) (λ v b h. unchanged d h)
-    item-kept x = from-taker (parse-number a) (λ v. setX v d) (number-past a) (λ v b h. same-name refl refl refl refl h)
-    item-kept y = from-taker (parse-number a) (λ v. setY v d) (number-past a) (λ v b h. same-name refl refl refl refl h)
-    item-kept semi = ok-then (Taken a) (Kept d a (a .rest)) (expect Kind.semicolon a) _ (expect-taken Kind.semicolon a) (λ t b h. unchanged d (h .1))
-    item-kept value =
-        from-taker (parse-enum (λ w. codeOf (d .rec .kind) w 0) a) (λ v. setCode v d) (enum-past (λ w. codeOf (d .rec .kind) w 0) a) (λ v b h. same-name refl refl refl refl h)
-    item-kept first = ok-then (Taken a) (Kept d a (a .rest)) (get-name a) _ (expect-taken Kind.name a)
-        (λ t b h. ok-cond (Kept d a (a .rest)) (begins (valuesOf (d .rec .kind)) (wordOf (t .bytes))) _ _ (same-name refl refl refl refl (h .1)) tt)
-    item-kept firstKey = ok-then (Past a) (Kept d a (a .rest)) (get-key a) _ (key-past a)
-        (λ w b h. ok-cond (Kept d a (a .rest)) (begins (valuesOf (d .rec .kind)) w) _ _ (same-name refl refl refl refl h) tt)
-    item-kept second =
-        ok-then (Ends a) (Kept d a (all a)) (parse-second (d .rec .kind) (d .first) a) _ (second-past (d .rec .kind) (d .first) a) (λ c b h. same-name refl refl refl refl h)
-    item-kept (string n) = ok-then (Taken a) (Kept d a (a .rest)) (expect Kind.stringLiteral a) _ (expect-taken Kind.stringLiteral a)
+    item-kept : (i : Item) → numbered i ≡ true → Ok (Kept d a (to (takes i) a)) (item f i d a)
+    unfolding item takes numbered
+    item-kept (key w) e = from-taker (expect-key (word w) a) (λ v. d) (this-key-past (word w) a) (λ v b h. unchanged d h)
+    item-kept (keyword w) e = from-taker (expect-keyword (word w) a) (λ v. d) (keyword-past (word w) a) (λ v b h. unchanged d h)
+    item-kept name e = ok-then (Taken a) (Kept d a (a .rest)) (get-name a) _ (expect-taken Kind.name a) (λ t b h. new-name d (nameOf t) (inl refl) h)
+    item-kept own e = from-taker (expect-ident (f .label) a) (λ v. d) (ident-past (f .label) a) (λ v b h. unchanged d h)
+    item-kept x e = from-taker (parse-number a) (λ v. setX v d) (number-past a) (λ v b h. same-name refl refl refl h)
+    item-kept y e = from-taker (parse-number a) (λ v. setY v d) (number-past a) (λ v b h. same-name refl refl refl h)
+    item-kept semi e = ok-then (Taken a) (Kept d a (a .rest)) (expect Kind.semicolon a) _ (expect-taken Kind.semicolon a) (λ t b h. unchanged d (h .1))
+    item-kept value e =
+        from-taker (parse-enum (λ w. codeOf (d .rec .kind) w 0) a) (λ v. setCode v d) (enum-past (λ w. codeOf (d .rec .kind) w 0) a) (λ v b h. same-name refl refl refl h)
+    item-kept first e = ok-then (Taken a) (Kept d a (a .rest)) (get-name a) _ (expect-taken Kind.name a)
+        (λ t b h. ok-cond (Kept d a (a .rest)) (begins (valuesOf (d .rec .kind)) (wordOf (t .bytes))) _ _ (same-name refl refl refl (h .1)) refl)
+    item-kept firstKey e = ok-then (Past a) (Kept d a (a .rest)) (get-key a) _ (key-past a)
+        (λ w b h. ok-cond (Kept d a (a .rest)) (begins (valuesOf (d .rec .kind)) w) _ _ (same-name refl refl refl h) refl)
+    item-kept second e =
+        ok-then (Ends a) (Kept d a (all a)) (parse-second (d .rec .kind) (d .first) a) _ (second-past (d .rec .kind) (d .first) a) (λ c b h. same-name refl refl refl h)
+    item-kept (string n) e = ok-then (Taken a) (Kept d a (a .rest)) (expect Kind.stringLiteral a) _ (expect-taken Kind.stringLiteral a)
         (λ t b h. ok-when (Kept d a (a .rest)) (eqb (length (t .bytes)) (n + 2)) _ _
-        (λ e. new-name d (insideOf n t) (inr (n, eqb-true (length (t .bytes)) (n + 2) e, refl)) h) tt)
-    item-kept (code c) = same-name refl refl refl refl here
-    item-kept (ifMore n) = unchanged d here
-    item-kept noName = ok-cond (Kept d a (all a)) (matches Kind.name a) _ _ tt (unchanged d here)
-    item-kept (among vs) = ok-cond (Kept d a (all a)) (member vs (d .rec .x)) _ _ (unchanged d here) tt
-    item-kept (whole n) = ok-cond (Kept d a (all a)) (empty (f .lacks)) _ _ (unchanged d here) tt
+        (λ q. new-name d (insideOf n t) (inr (n, eqb-true (length (t .bytes)) (n + 2) q, refl)) h) refl)
+    item-kept (code c) e = same-name refl refl refl here
+    item-kept (ifMore n) e = unchanged d here
+    item-kept noName e = ok-cond (Kept d a (all a)) (matches Kind.name a) _ _ refl (unchanged d here)
+    item-kept (among vs) e = ok-cond (Kept d a (all a)) (member vs (d .rec .x)) _ _ (unchanged d here) refl
+    item-kept (whole n) e = ok-cond (Kept d a (all a)) (empty (f .lacks)) _ _ (unchanged d here) e
 
   -- one after the other
-  pub further : {d e g : Draft A} {a b c : Ahead A M} {l : List (Tok A M)} → Suf l (all a) → Kept d a l e b → Kept e b (all b) g c → Kept d a l g c
+  further : {d e g : Draft A} {a b c : Ahead A M} {l : List (Tok A M)} → Suf l (all a) → Kept d a l e b → Kept e b (all b) g c → Kept d a l g c
   further h p q = record {
     at = q .at ∙ p .at;
     owner = q .owner ∙ p .owner;
-    kind = q .kind ∙ p .kind;
     name = λ ts s n. q .name ts (suf-trans (p .ahead) (suf-trans h s)) (p .name ts s n);
     ahead = suf-trans (q .ahead) (p .ahead);
   }
@@ -209,35 +187,44 @@ module _ {A M : Type 0} where
   to-ends false a = here
 
   wider : {d e : Draft A} {a b : Ahead A M} {k l : List (Tok A M)} → Suf k l → Kept d a k e b → Kept d a l e b
-  wider h p = record { at = p .at; owner = p .owner; kind = p .kind; name = p .name; ahead = suf-trans (p .ahead) h }
+  wider h p = record { at = p .at; owner = p .owner; name = p .name; ahead = suf-trans (p .ahead) h }
 
-  pub items-kept : (m : ℕ) (f : Frame A) (is : List Item) (d : Draft A) (a : Ahead A M) → Ok (Kept d a (all a)) (items m f is d a)
-  unfolding items
-  items-kept zero f [] d a = unchanged d here
-  items-kept (suc m) f [] d a = unchanged d here
-  items-kept (suc m) f (i ∷ is) d a = items-kept m f is d a
-  items-kept zero f (i ∷ is) d a =
-      ok-then (Kept d a (to (takes i) a)) (Kept d a (all a)) (item f i d a) (λ e b. items (passed i b) f is e b) (item-kept f d a i)
+  items-kept : (m : ℕ) (f : Frame A) (is : List Item) → all-numbered is ≡ true → (d : Draft A) (a : Ahead A M) → Ok (Kept d a (all a)) (items m f is d a)
+  unfolding items all-numbered
+  items-kept m f [] n d a = unchanged d here
+  items-kept (suc m) f (i ∷ is) n d a = items-kept m f is (both (numbered i) (all-numbered is) n .1) d a
+  items-kept zero f (i ∷ is) n d a = let s = both (numbered i) (all-numbered is) n in
+      ok-then (Kept d a (to (takes i) a)) (Kept d a (all a)) (item f i d a) (λ e b. items (passed i b) f is e b) (item-kept f d a i (s .0))
       (λ e b h. ok-map (Kept e b (all b)) (Kept d a (all a)) (items (passed i b) f is e b)
-      (λ g c k. further here (wider (to-ends (takes i) a) h) k) (items-kept (passed i b) f is e b))
+      (λ g c k. further here (wider (to-ends (takes i) a) h) k) (items-kept (passed i b) f is (s .1) e b))
+
+  -- what takes a token, and then items
+  begun-kept : {B : Type 0} (Q : B → Ahead A M → Type 0) (f : Frame A) (is : List Item) → all-numbered is ≡ true → (d : Draft A) (a : Ahead A M) (m : Ahead A M → ℕ) (g : B → Draft A) (t : Answer A M B)
+      → Ok Q t → ((v : B) (b : Ahead A M) → Q v b → Kept d a (a .rest) (g v) b) → Ok (Kept d a (a .rest)) (then t (λ v b. items (m b) f is (g v) b))
+  begun-kept Q f is n d a m g t h k = ok-then Q (Kept d a (a .rest)) t (λ v b. items (m b) f is (g v) b) h
+      (λ v b q. ok-map (Kept (g v) b (all b)) (Kept d a (a .rest)) (items (m b) f is (g v) b) (λ e c r. further (there here) (k v b q) r) (items-kept (m b) f is n (g v) b))
+
+  -- items after a word that was taken
+  pub worded-kept : (f : Frame A) (is : List Item) → all-numbered is ≡ true → (d : Draft A) (a : Ahead A M) (t : Answer A M (Tok A M))
+      → Ok (Taken a) t → Ok (Kept d a (a .rest)) (then t (λ v b. items 0 f is d b))
+  worded-kept f is n d a t h = begun-kept (Taken a) f is n d a (λ b. 0) (λ v. d) t h (λ v b q. unchanged d (q .1))
 
   -- items of which the first takes a token
-  pub opening-kept : (f : Frame A) (i : Item) (is : List Item) → takes i ≡ true → (d : Draft A) (a : Ahead A M) → Ok (Kept d a (a .rest)) (items 0 f (i ∷ is) d a)
-  unfolding items
-  opening-kept f i is e d a =
-      ok-then (Kept d a (a .rest)) (Kept d a (a .rest)) (item f i d a) (λ e b. items (passed i b) f is e b) (rw e at (item-kept f d a i))
-      (λ e b h. ok-map (Kept e b (all b)) (Kept d a (a .rest)) (items (passed i b) f is e b)
-      (λ g c k. further (there here) h k) (items-kept (passed i b) f is e b))
+  pub eager-kept : (f : Frame A) (is : List Item) → eager is ≡ true → all-numbered is ≡ true → (d : Draft A) (a : Ahead A M) → Ok (Kept d a (a .rest)) (items 0 f is d a)
+  unfolding items eager all-numbered
+  eager-kept f [] e n d a = absurd (false≢true e)
+  eager-kept f (i ∷ is) e n d a = let s = both (numbered i) (all-numbered is) n in
+      begun-kept (Kept d a (a .rest)) f is (s .1) d a (passed i) (λ q. q) (item f i d a) (rw e at (item-kept f d a i (s .0))) (λ q b h. h)
 
   -- what ends a list of parts
   pub semi-kept : (f : Frame A) (d : Draft A) (a : Ahead A M) → Ok (Kept d a (a .rest)) (items 0 f (semi ∷ []) d a)
-  unfolding takes
-  semi-kept f d a = opening-kept f semi [] refl d a
+  unfolding takes numbered eager all-numbered
+  semi-kept f d a = eager-kept f (semi ∷ []) refl refl d a
 
-  pub whole-kept : (n : ℕ) (f : Frame A) (d : Draft A) (a : Ahead A M) → Ok (Kept d a (a .rest)) (items 0 f (whole n ∷ semi ∷ []) d a)
+  pub whole-kept : (n : ℕ) → ranged n ≡ true → (f : Frame A) (d : Draft A) (a : Ahead A M) → Ok (Kept d a (a .rest)) (items 0 f (whole n ∷ semi ∷ []) d a)
   unfolding items item
-  whole-kept n f d a = go (empty (f .lacks))
+  whole-kept n r f d a = go (empty (f .lacks))
     where
       go : (c : Bool) → Ok (Kept d a (a .rest)) (then (cond c (ok d a) (complain n a)) (λ e b. items 0 f (semi ∷ []) e b))
       go true = semi-kept f d a
-      go false = tt
+      go false = r

@@ -1,8 +1,10 @@
 pub mod Blocks
+pub mod Answers
 pub mod Takes
-pub mod Falls
 pub mod Kept
+pub mod Steps
 pub mod Turned
+pub mod Falls
 pub mod Rises
 pub mod Places
 pub mod Every

@@ -7,7 +7,6 @@ use mathlib.Core.List.{List, [], _∷_}
 use native.Mathlib.Omega.{arith}
 use lib.Dec.{eqb}
 use lib.ListN.{length}
-use borrow.Author.Tests.{eqb-true}
 use Rattle.lexer.specs.Kinds as Kind
 use Rattle.numeral.specs.declared.Value.{Value}
 use Rattle.numeral.specs.declared.Value.the-variants.{Scaled, Not}
@@ -26,7 +25,10 @@ use Rattle.reader.specs.Reading.{Mark, records, reading}
 use Rattle.reader.specs.Listed.{kindCodes, allows, listed, Stored}
 use Rattle.reader.specs.Standing.{Every}
 use Rattle.reader.proofs.Blocks.{at-block}
-use Rattle.reader.proofs.Every.{Holds, Kept, holds-then, holds-after, holds-cond, fit-act, fit-rows, fit-body, Given, every}
+use Rattle.reader.proofs.Answers.{Holds, holds-then, holds-after, holds-cond}
+use Rattle.reader.proofs.Takes.{takes, numbered, all-numbered, eager}
+use Rattle.reader.proofs.Steps.{fit-act, fit-rows, fit-body, Given}
+use Rattle.reader.proofs.Every.{every}
 use Rattle.reader.proofs.Codes.{pairs, Coded, goes, keyed-seconds, value-coded, second-coded, valuable, coded-listed}
 
 -- NUMBERS
@@ -97,15 +99,14 @@ skip noName = 0
 skip (among vs) = 0
 skip (whole n) = 0
 
--- a record of kind 0 is none
-unfoldable ended : ℕ → Stage → Bool
-ended k lacking = eqb k 0
-ended k begun = eqb k 0
-ended k settled = true
+abbrev is-settled : Stage → Bool
+is-settled lacking = false
+is-settled begun = false
+is-settled settled = true
 
 -- do the items settle the code, the first m of them passed over, whether or not more are passed over?
 unfoldable settles : ℕ → ℕ → Stage → List Item → Bool
-settles k m s [] = ended k s
+settles k m s [] = is-settled s
 settles k (suc m) s (i ∷ is) = settles k m s is
 settles k zero s (i ∷ is) = settles k 0 (after k s i) is && settles k (skip i) (after k s i) is
 
@@ -113,7 +114,7 @@ unfoldable fit : ℕ → List Item → Bool
 fit k is = settles k 0 (stage (listed k 0)) is
 
 all-fit : (b : Block) → fit-body fit (body b) ≡ true
-unfolding fit-body fit-rows fit-act fit settles ended skip after closed valuable pairs keyed-seconds goes listed kindCodes allows keys values words raised upper same firstWhere wordOf onOff siteClasses symmetries macroClasses directions uses shapes antennaModels antennaKeys portClasses layerOptions valuesOf placeOf codeOf goesOn
+unfolding fit-body fit-rows fit-act all-numbered numbered eager takes fit settles skip after closed valuable pairs keyed-seconds goes listed kindCodes allows keys values words raised upper same firstWhere wordOf onOff siteClasses symmetries macroClasses directions uses shapes antennaModels antennaKeys portClasses layerOptions valuesOf placeOf codeOf goesOn
 all-fit = at-block (fit-body fit) refl
 
 passed-either : {A M : Type 0} (i : Item) (a : Ahead A M) (Q : ℕ → Type 0) → Q 0 → Q (skip i) → Q (passed i a)
@@ -165,11 +166,10 @@ module _ {A : Type 0} (k : ℕ) where
   recode : (s : Stage) (d : Draft A) (t : Bool) (c : ℕ) → Fit k s d → (t ≡ true → listed k c ≡ true) → Fit k (stage t) (setCode c d)
   recode s d t c h g = record { kind-is = h .kind-is; x-is = h .x-is; y-is = h .y-is; code-is = at-stage k c (d .first) t g }
 
-  end-fits : (s : Stage) (d : Draft A) → ended k s ≡ true → Fit k s d → Kept SoundRec d
-  unfolding ended
-  end-fits lacking d e h l = absurd (let z : ⊥ = omega (arith, h .kind-is, eqb-true k 0 e) in z)
-  end-fits begun d e h l = absurd (let z : ⊥ = omega (arith, h .kind-is, eqb-true k 0 e) in z)
-  end-fits settled d e h l = record { is-listed = rw (h .kind-is) (h .code-is); x-stored = h .x-is; y-stored = h .y-is }
+  end-fits : (s : Stage) (d : Draft A) → is-settled s ≡ true → Fit k s d → SoundRec (d .rec)
+  end-fits lacking d e h = absurd (false≢true e)
+  end-fits begun d e h = absurd (false≢true e)
+  end-fits settled d e h = record { is-listed = rw (h .kind-is) (h .code-is); x-stored = h .x-is; y-stored = h .y-is }
 
 module _ {A M : Type 0} (f : Frame A) (k : ℕ) where
   -- the code becomes one of the kind, where t
@@ -214,13 +214,13 @@ module _ {A M : Type 0} (f : Frame A) (k : ℕ) where
   item-fits (among vs) s d a h = holds-cond (Fit k s) (member vs (d .rec .x)) (ok d a) (complain 6 a) (λ e. h) (λ e. tt)
   item-fits (whole n) s d a h = holds-cond (Fit k s) (empty (f .lacks)) (ok d a) (complain n a) (λ e. h) (λ e. tt)
 
-  items-fit : (m : ℕ) (is : List Item) (s : Stage) → settles k m s is ≡ true → (d : Draft A) (a : Ahead A M) → Fit k s d → Holds (Kept SoundRec) (items m f is d a)
+  items-fit : (m : ℕ) (is : List Item) (s : Stage) → settles k m s is ≡ true → (d : Draft A) (a : Ahead A M) → Fit k s d → Holds (λ d. SoundRec (d .rec)) (items m f is d a)
   unfolding items settles
   items-fit m [] s e d a h = end-fits k s d e h
   items-fit (suc m) (i ∷ is) s e d a h = items-fit m is s e d a h
   items-fit zero (i ∷ is) s e d a h = let z = both (settles k 0 (after k s i) is) (settles k (skip i) (after k s i) is) e in
-      holds-then (Kept SoundRec) (Fit k (after k s i)) (item f i d a) (λ q b. items (passed i b) f is q b) (item-fits i s d a h)
-      (λ q b g. passed-either i b (λ m. Holds (Kept SoundRec) (items m f is q b)) (items-fit 0 is (after k s i) (z .0) q b g) (items-fit (skip i) is (after k s i) (z .1) q b g))
+      holds-then (λ d. SoundRec (d .rec)) (Fit k (after k s i)) (item f i d a) (λ q b. items (passed i b) f is q b) (item-fits i s d a h)
+      (λ q b g. passed-either i b (λ m. Holds (λ d. SoundRec (d .rec)) (items m f is q b)) (items-fit 0 is (after k s i) (z .0) q b g) (items-fit (skip i) is (after k s i) (z .1) q b g))
 
 -- THE READING
 

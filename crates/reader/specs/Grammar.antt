@@ -29,14 +29,14 @@ pub data Item : Type 0 where
 -- what a statement does to the open blocks
 pub data Move : Type 0 where
   stay : Move
-  leave : Move
   enter : Block → List ℕ → Move  -- opens a block, which lacks records of these kinds
   named : Block → List ℕ → Move  -- the same, and the block has the record's name
   version : Move  -- stays, and x is the version from now on
 
 -- what a word begins
 pub data Act : Type 0 where
-  statement : ℕ → List Item → Move → Act  -- a record of this kind, or none for 0: the word is taken, then the items
+  statement : ℕ → List Item → Move → Act  -- a record of this kind: the word is taken, then the items
+  close : List Item → Act  -- the block ends: the word is taken, then the items
   refuse : ℕ → Act  -- this number
   back : Act  -- the block ends before the word, which the enclosing block reads
   upTo54 : Act → Act  -- only if the version is at most 5.4, else 5

@@ -16,7 +16,7 @@ use Rattle.lexer.specs.Screen.{screened}
 use Rattle.reader.specs.Tokens.{Tok, Ahead, end, bad}
 use Rattle.reader.specs.Grammar.{Library}
 use Rattle.reader.specs.Table.{body}
-use Rattle.reader.specs.Engine.{Maybe, none, some, Name, Rec}
+use Rattle.reader.specs.Engine.{Maybe, none, some, Name, Rec, Frame}
 use Rattle.reader.specs.Turns.{State, state, Outcome, read, stopped, turns}
 
 -- where a complaint is placed while a token is held: at its end, or at the text's end, on its line
@@ -52,8 +52,11 @@ abbrev pub filed : Rec ℕ → Record
 filed r = made (r .kind) (r .code) (r .at) (ownerAt (r .owner)) (nameAt (r .name)) (nameLength (r .name)) (r .x) (r .y)
 
 -- the library, before any statement: version 5.8 holds
+abbrev pub libraryFrame : Frame ℕ
+libraryFrame = record { block = Library; at = none; label = []; lacks = [] }
+
 abbrev pub start : State ℕ
-start = state 5800000 (record { block = Library; at = none; label = []; lacks = [] } ∷ [])
+start = state 5800000 (libraryFrame ∷ [])
 
 -- the reading of what is ahead: a bad first byte is refused at once
 unfoldable pub readAhead : Ahead ℕ Mark → Outcome Mark (Rec ℕ)

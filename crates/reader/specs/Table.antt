@@ -2,7 +2,7 @@
 use Prim.Native.Nat.{ℕ}
 use mathlib.Core.List.{List, [], _∷_}
 use Rattle.record.specs.Kinds.{VERSION, BUSBITCHARS, DIVIDERCHAR, NAMESCASESENSITIVE, NOWIREEXTENSIONATPIN, UNITS, DATABASE, SITE, SITE-CLASS, SYMMETRY, SYMMETRY-WORD, SIZE, MACRO, MACRO-CLASS, MACRO-SITE, FOREIGN, ORIGIN, PIN, DIRECTION, USE, SHAPE, ANTENNAMODEL, ANTENNA, PORT, PORT-CLASS, OBS, LAYER, LAYER-OPTION, WIDTH, RECT, POLYGON, PATH, POINT, VIA, WITH-POINT, EXCEPTPGNET, SPACING, DESIGNRULEWIDTH}
-use Rattle.reader.specs.Grammar.{Block, Library, Units, Site, Symmetry, Macro, Pin, Port, Obs, Options, Layer, Rect, Polygon, Path, Act, key, keyword, name, own, x, y, semi, value, first, firstKey, second, string, code, ifMore, noName, among, whole, stay, leave, enter, named, version, statement, refuse, back, upTo54, Row, row, Body, keyed, worded, options, parts, counted}
+use Rattle.reader.specs.Grammar.{Block, Library, Units, Site, Symmetry, Macro, Pin, Port, Obs, Options, Layer, Rect, Polygon, Path, Act, key, keyword, name, own, x, y, semi, value, first, firstKey, second, string, code, ifMore, noName, among, whole, stay, enter, named, version, statement, close, refuse, back, upTo54, Row, row, Body, keyed, worded, options, parts, counted}
 
 -- 5 or 5.0 to 5.8, one nonzero decimal, in millionths
 abbrev pub versions : List ℕ
@@ -41,7 +41,7 @@ body Library = keyed 5 (
     ∷ row "SITE" (statement SITE (name ∷ []) (named Site (SITE-CLASS ∷ SIZE ∷ [])))
     ∷ row "MACRO" (statement MACRO (name ∷ []) (named Macro []))
     ∷ row "BEGINEXT" (refuse 8)
-    ∷ row "END" (statement 0 (key "LIBRARY" ∷ []) leave)
+    ∷ row "END" (close (key "LIBRARY" ∷ []))
     ∷ [])
 -- `parse_units`
 body Units = worded (
@@ -53,7 +53,7 @@ body Units = worded (
     ∷ row "CURRENT" (refuse 8)
     ∷ row "VOLTAGE" (refuse 8)
     ∷ row "FREQUENCY" (refuse 8)
-    ∷ row "END" (statement 0 (keyword "UNITS" ∷ []) leave)
+    ∷ row "END" (close (keyword "UNITS" ∷ []))
     ∷ [])
 -- `parse_site_def`: CLASS and SIZE must both occur
 body Site = keyed 6 (
@@ -61,7 +61,7 @@ body Site = keyed 6 (
     ∷ symmetry
     ∷ size
     ∷ row "ROWPATTERN" (refuse 8)
-    ∷ row "END" (statement 0 (own ∷ whole 10 ∷ []) leave)
+    ∷ row "END" (close (own ∷ whole 10 ∷ []))
     ∷ [])
 body Symmetry = parts SYMMETRY-WORD (value ∷ [])
 -- `parse_macro`
@@ -75,7 +75,7 @@ body Macro = keyed 5 (
     ∷ row "SOURCE" (upTo54 (refuse 8))
     ∷ row "PIN" (statement PIN (name ∷ []) (named Pin []))
     ∷ row "OBS" (statement OBS [] (enter Obs []))
-    ∷ row "END" (statement 0 (own ∷ []) leave)
+    ∷ row "END" (close (own ∷ []))
     ∷ [])
 -- `parse_pin`
 body Pin = keyed 5 (
@@ -99,18 +99,18 @@ body Pin = keyed 5 (
     ∷ row "GROUNDSENSITIVITY" (refuse 8)
     ∷ row "MUSTJOIN" (refuse 8)
     ∷ row "PROPERTY" (refuse 8)
-    ∷ row "END" (statement 0 (own ∷ []) leave)
+    ∷ row "END" (close (own ∷ []))
     ∷ [])
 -- `parse_port`
 body Port = keyed 5 (
     row "CLASS" (statement PORT-CLASS (value ∷ semi ∷ []) stay)
     ∷ layer
-    ∷ row "END" (statement 0 [] leave)
+    ∷ row "END" (close [])
     ∷ [])
 -- `parse_obstructions`
 body Obs = keyed 5 (
     layer
-    ∷ row "END" (statement 0 [] leave)
+    ∷ row "END" (close [])
     ∷ [])
 -- `parse_layer_geometries`: the options of the LAYER line, and then the body, which ends before a LAYER or an END
 body Options = options (
