@@ -1,23 +1,19 @@
--- Reading back what was written, since a record in range is the record of its bytes; and what writing leaves alone.
-use Prim.Native.Nat.{ℕ, zero, suc, _+_, _-_, _*_, _/_, _^_, _≤_, _<_}
+-- A record in range is the record of its bytes, and 36 bytes are the bytes of their record.
+use Prim.Native.Nat.{ℕ, suc, _+_, _-_, _^_, _≤_, _<_}
 use mathlib.Core.Path.{_≡_, refl, sym, ap, _∙_}
-use mathlib.Core.Bool.{true, false, cond}
-use mathlib.Core.Logic.{_↔_, _≢_}
-use mathlib.Core.List.{List, [], _∷_, _++_, append-assoc}
-use native.Mathlib.Decide.{decLt}
+use mathlib.Core.Logic.{_↔_}
+use mathlib.Core.List.{List, _∷_, _++_, append-assoc}
 use native.Mathlib.Omega.{arith}
-use borrow.Author.Tests.{ltb-true}
 use lib.IntN.{pos, negsuc}
-use lib.ListN.{length, take, drop, getD, set, length-take, length-drop, take-append-drop}
-use lib.Seq.{sets, sets-eq, take-at, drop-at, length-sets, drop-drop, getD-drop, take-all, drop-cons, drop-set-add, drop-set-lt, take-set-le, length-take-le}
+use lib.ListN.{length, take, drop, getD, length-take, length-drop, take-append-drop}
+use lib.Seq.{drop-drop, take-all, drop-cons}
 use mir.Syntax.{w64}
 use mir.ValLaws.{toZ-pos, toZ-neg}
+use Rattle.little.specs.Little.{little, Bytes}
+use Rattle.little.proofs.Laws.{number-little, little-number, take-bytes, drop-bytes}
 use Rattle.record.specs.declared.Record.{Record}
-use Rattle.record.specs.declared.Found.the-variants.{At}
-use Rattle.record.specs.Little.{little}
-use Rattle.record.specs.File.{encoded, field, decoded, hasRoom, recordAt, stored}
-use Rattle.record.specs.Range.{InRange, Bytes, signed}
-use Rattle.record.proofs.Little.{number-little, little-number}
+use Rattle.record.specs.Bytes.{encoded, field, decoded}
+use Rattle.record.specs.Range.{InRange, signed}
 
 pub encoded-length : (r : Record) → length (encoded r) ≡ 36
 unfolding encoded little
@@ -42,16 +38,6 @@ read-back r h =
 -- two records in range have equal bytes exactly where they are equal
 pub same-bytes : (r q : Record) → InRange r → InRange q → (encoded r ≡ encoded q) ↔ (r ≡ q)
 same-bytes r q h k = (λ e. sym (read-back r h) ∙ ap decoded e ∙ read-back q k, ap encoded)
-
--- parts of bytes are bytes
-pub take-bytes : (n : ℕ) (l : List ℕ) → Bytes l → Bytes (take n l)
-take-bytes zero l h i = omega arith
-take-bytes (suc n) [] h i = omega arith
-take-bytes (suc n) (b ∷ l) h zero = h 0
-take-bytes (suc n) (b ∷ l) h (suc i) = take-bytes n l (λ j. h (suc j)) i
-
-pub drop-bytes : (o : ℕ) (l : List ℕ) → Bytes l → Bytes (drop o l)
-drop-bytes o l h i = rw getD-drop (h (o + i))
 
 -- the n bytes at o, out of their number again
 part : (l : List ℕ) → Bytes l → (o n : ℕ) → o + n ≤ length l → little n (field o n l) ≡ take n (drop o l)
@@ -85,55 +71,6 @@ whole l h k =
     ∙ grouped (getD l 0 0) (getD l 1 0) (take 2 (drop 2 l)) (take 4 (drop 4 l)) (take 4 (drop 8 l)) (take 4 (drop 12 l)) (take 4 (drop 16 l)) (take 8 (drop 20 l)) (take 8 (drop 28 l))
     ∙ ap (λ t. getD l 0 0 ∷ getD l 1 0 ∷ t) (join l 2 2 _ (join l 4 4 _ (join l 8 4 _ (join l 12 4 _ (join l 16 4 _ (join l 20 8 _ last))))))
     ∙ sym (drop-cons l 0 0 (omega arith) ∙ ap (_∷_ (getD l 0 0)) (drop-cons l 1 0 (omega arith)))
-
--- the bytes written take the record's place, and all others are kept
-pub laid : (r : Record) (i : ℕ) (file : List ℕ) → hasRoom file i ≡ true → stored r i file ≡ take (36 * i) file ++ encoded r ++ drop (36 * i + 36) file
-unfolding stored
-laid r i file h =
-    let in-file : i < length file / 36 = ltb-true _ _ h in
-    rw (h) (sets-eq (encoded r) file (36 * i) (rw (encoded-length r) (omega arith)) ∙ rw (encoded-length r))
-
--- a part that ends before a run of stores, or starts after it, is kept
-kept-before : (ys l : List ℕ) (p o n : ℕ) → o + n ≤ p → take n (drop o (sets l p ys)) ≡ take n (drop o l)
-kept-before [] l p o n h = refl
-kept-before (y ∷ ys) l p o n h =
-    let e : o + (p - o) ≡ p = omega arith in
-    kept-before ys (set l p y) (suc p) o n (omega arith)
-    ∙ ap (λ q. take n (drop o (set l q y))) (sym e)
-    ∙ rw (drop-set-add o l (p - o) y, take-set-le n (drop o l) (p - o) y (omega arith))
-
-kept-after : (ys l : List ℕ) (p o n : ℕ) → p + length ys ≤ o → take n (drop o (sets l p ys)) ≡ take n (drop o l)
-kept-after [] l p o n h = refl
-kept-after (y ∷ ys) l p o n h = kept-after ys (set l p y) (suc p) o n (omega arith) ∙ rw (drop-set-lt o l p y (omega arith))
-
-pub stored-length : (r : Record) (i : ℕ) (file : List ℕ) → length (stored r i file) ≡ length file
-unfolding stored
-stored-length r i file = elim (hasRoom file i) as (λ b. length (cond b (sets file (36 * i) (encoded r)) file) ≡ length file) [ true ↦ length-sets file (36 * i) (encoded r) | false ↦ refl ]
-
-module _ (r : Record) (i : ℕ) (file : List ℕ) (room : hasRoom file i ≡ true) where
-  -- what was written is read at its index
-  pub read-stored : InRange r → recordAt (stored r i file) i ≡ At r
-  unfolding recordAt
-  read-stored h =
-      let in-file : i < length file / 36 = ltb-true _ _ room in
-      let front : length (take (36 * i) file) ≡ 36 * i = length-take-le (36 * i) file (omega arith) in
-      rw (stored-length r i file, room, laid r i file room)
-      (rw (
-        append-assoc (take (36 * i) file) (encoded r) (drop (36 * i + 36) file),
-        drop-at (take (36 * i) file) (encoded r ++ drop (36 * i + 36) file) (36 * i) front,
-        take-at (encoded r) (drop (36 * i + 36) file) 36 (encoded-length r),
-        read-back r h,
-      ))
-
-  -- and at any other index what was there
-  pub read-other : (j : ℕ) → j ≢ i → recordAt (stored r i file) j ≡ recordAt file j
-  unfolding recordAt stored
-  read-other j h =
-      let same : take 36 (drop (36 * j) (sets file (36 * i) (encoded r))) ≡ take 36 (drop (36 * j) file) = elim (decLt j i) [
-        | yes p ↦ kept-before (encoded r) file (36 * i) (36 * j) 36 (omega arith)
-        | no q ↦ kept-after (encoded r) file (36 * i) (36 * j) 36 (rw (encoded-length r) (omega (arith, q, h)))
-      ] in
-      rw (stored-length r i file, room) (rw same)
 
 -- a field of 63 bits is itself, and 2 ^ 64 less m is minus m
 pub signed-plus : (m : ℕ) → m < 2 ^ 63 → signed m ≡ pos m

@@ -1,5 +1,4 @@
-pub mod Little
-pub mod File
+pub mod Bytes
 pub mod Kinds
 pub mod Made
 pub mod Range

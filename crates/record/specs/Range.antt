@@ -1,7 +1,5 @@
--- Which records 36 bytes can hold, and which lists are bytes.
+-- Which records 36 bytes can hold.
 use Prim.Native.Nat.{ℕ, _^_, _<_}
-use mathlib.Core.List.{List}
-use lib.ListN.{getD}
 use lib.IntN.{ℤ}
 use mir.Syntax.{w64}
 use mir.Val.{toZ}
@@ -18,10 +16,6 @@ pub record InRange (r : Record) : Type 0 where
   pub len-fits : r .len < 2 ^ 32
   pub x-fits : r .x < 2 ^ 64
   pub y-fits : r .y < 2 ^ 64
-
--- each element is a byte
-abbrev pub Bytes : List ℕ → Type 0
-Bytes l = (i : ℕ) → getD l i 0 < 256
 
 -- the signed number that a field x or y holds: below 2 ^ 63 the field itself, and from there on the field less 2 ^ 64
 abbrev pub signed : ℕ → ℤ

@@ -1,10 +1,6 @@
-// A record of the record file: what it holds, how it stands in 36 bytes, and how it is made.
+// A record of the record file: what it holds, and how one is made, for its kind or of its 36 bytes.
 ghost use mathlib.Core.Path.{_≡_};
-ghost use Prim.Native.Nat.{_+_, _≤_, _<_, _^_};
-ghost use lib.ListN.{length, take, drop};
-ghost use lib.Seq.{sets};
-ghost use Rattle.record.specs.Little.{number};
-ghost use Rattle.record.specs.File.{encoded, decoded, hasRoom, recordAt, stored};
+ghost use Rattle.record.specs.Bytes.{decoded};
 
 pub mod code;
 pub mod kind;
@@ -21,12 +17,6 @@ pub struct Record {
     len: usize,
     x: u64,
     y: u64,
-}
-
-// What stands at an index of a record file.
-pub enum Found {
-    At(Record),
-    Past,
 }
 
 impl Record {
@@ -66,6 +56,12 @@ impl Record {
         self.code
     }
 
+    pub fn spare(self) -> u16
+        ensures { λ r. ⌜ r ≡ self .spare ⌝ }
+    {
+        self.spare
+    }
+
     pub fn at(self) -> usize
         ensures { λ r. ⌜ r ≡ self .at ⌝ }
     {
@@ -102,128 +98,20 @@ impl Record {
         self.y
     }
 
-    // The record's 36 bytes.
-    pub fn bytes(self) -> [u8; 36]
-        ensures { λ r. ⌜ r ≡ encoded self ⌝ }
-    {
-        let spare = self.spare;
-        let at = self.at;
-        let owner = self.owner;
-        let name = self.name;
-        let len = self.len;
-        let x = self.x;
-        let y = self.y;
-        [
-            self.kind,
-            self.code,
-            (spare % 256) as u8,
-            (spare / 256 % 256) as u8,
-            (at % 256) as u8,
-            (at / 256 % 256) as u8,
-            (at / 256 / 256 % 256) as u8,
-            (at / 256 / 256 / 256 % 256) as u8,
-            (owner % 256) as u8,
-            (owner / 256 % 256) as u8,
-            (owner / 256 / 256 % 256) as u8,
-            (owner / 256 / 256 / 256 % 256) as u8,
-            (name % 256) as u8,
-            (name / 256 % 256) as u8,
-            (name / 256 / 256 % 256) as u8,
-            (name / 256 / 256 / 256 % 256) as u8,
-            (len % 256) as u8,
-            (len / 256 % 256) as u8,
-            (len / 256 / 256 % 256) as u8,
-            (len / 256 / 256 / 256 % 256) as u8,
-            (x % 256) as u8,
-            (x / 256 % 256) as u8,
-            (x / 256 / 256 % 256) as u8,
-            (x / 256 / 256 / 256 % 256) as u8,
-            (x / 256 / 256 / 256 / 256 % 256) as u8,
-            (x / 256 / 256 / 256 / 256 / 256 % 256) as u8,
-            (x / 256 / 256 / 256 / 256 / 256 / 256 % 256) as u8,
-            (x / 256 / 256 / 256 / 256 / 256 / 256 / 256 % 256) as u8,
-            (y % 256) as u8,
-            (y / 256 % 256) as u8,
-            (y / 256 / 256 % 256) as u8,
-            (y / 256 / 256 / 256 % 256) as u8,
-            (y / 256 / 256 / 256 / 256 % 256) as u8,
-            (y / 256 / 256 / 256 / 256 / 256 % 256) as u8,
-            (y / 256 / 256 / 256 / 256 / 256 / 256 % 256) as u8,
-            (y / 256 / 256 / 256 / 256 / 256 / 256 / 256 % 256) as u8,
-        ]
-    }
-
-    // Writes the record at the index, and says whether the file had room there.
-    pub fn put(self, file: &mut [u8], index: usize) -> bool
-        ensures { λ r. ⌜ r ≡ hasRoom (now (file .entry)) index ⌝ }
-        ensures { λ r. ⌜ now (file .exit) ≡ stored self index (now (file .entry)) ⌝ }
-    {
-        if file.len() / Self::SIZE <= index {
-            return false;
-        }
-        lay(file, Self::SIZE * index, &self.bytes());
-        true
-    }
-
-    // The record at the index of the file.
-    pub fn read(file: &[u8], index: usize) -> Found
-        ensures { λ r. ⌜ r ≡ recordAt (now (file .entry)) index ⌝ }
-    {
-        if file.len() / Self::SIZE <= index {
-            return Found::Past;
-        }
-        let base = Self::SIZE * index;
-        let stop = base + Self::SIZE;
-        Found::At(Self::of_bytes(&file[base..stop]))
-    }
-
-    fn of_bytes(bytes: &[u8]) -> Self
-        requires { ⌜ length (now bytes) ≡ 36 ⌝ }
+    // The record whose 36 bytes these are. A byte that is missing counts as nought.
+    pub fn of_bytes(bytes: &[u8]) -> Self
         ensures { λ r. ⌜ r ≡ decoded (now (bytes .entry)) ⌝ }
     {
         Self {
-            kind: bytes[Self::KIND],
-            code: bytes[Self::CODE],
-            spare: word(bytes, Self::SPARE, 2) as u16,
-            at: word(bytes, Self::AT, 4) as usize,
-            owner: word(bytes, Self::OWNER, 4) as usize,
-            name: word(bytes, Self::NAME, 4) as usize,
-            len: word(bytes, Self::LEN, 4) as usize,
-            x: word(bytes, Self::X, 8),
-            y: word(bytes, Self::Y, 8),
+            kind: little::number(bytes, Self::KIND, 1) as u8,
+            code: little::number(bytes, Self::CODE, 1) as u8,
+            spare: little::number(bytes, Self::SPARE, 2) as u16,
+            at: little::number(bytes, Self::AT, 4) as usize,
+            owner: little::number(bytes, Self::OWNER, 4) as usize,
+            name: little::number(bytes, Self::NAME, 4) as usize,
+            len: little::number(bytes, Self::LEN, 4) as usize,
+            x: little::number(bytes, Self::X, 8),
+            y: little::number(bytes, Self::Y, 8),
         }
     }
-}
-
-// Lays bytes over the file at a place.
-fn lay(file: &mut [u8], place: usize, bytes: &[u8])
-    requires { ⌜ place + length (now bytes) ≤ length (now file) ⌝ }
-    ensures { λ r. ⌜ now (file .exit) ≡ sets (now (file .entry)) place (now (bytes .entry)) ⌝ }
-{
-    let mut i = 0;
-    while i < bytes.len() {
-        file[place + i] = bytes[i];
-        i += 1;
-    }
-}
-
-// The number in the n bytes at a place, the lowest first.
-fn word(bytes: &[u8], place: usize, n: usize) -> u64
-    requires { ⌜ (place + n ≤ length (now bytes)) × (n ≤ 8) ⌝ }
-    ensures eq { λ r. ⌜ r ≡ number (take n (drop place (now (bytes .entry)))) ⌝ }
-    ensures small { λ r. ⌜ r < 256 ^ n ⌝ }
-{
-    let mut i = n;
-    let mut sum = 0;
-    while 0 < i {
-        i -= 1;
-        sum = 256 * sum + wide(bytes[place + i]);
-    }
-    sum
-}
-
-fn wide(x: u8) -> u64
-    ensures { λ r. ⌜ (r ≡ x) × (r < 256) ⌝ }
-{
-    x as u64
 }

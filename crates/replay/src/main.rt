@@ -11,11 +11,11 @@ ghost use lib.ListN.{length};
 mod hex;
 mod say;
 
+use file::Found;
 use lexer::Answer;
 use lexer::Lexed;
 use numeral::Value;
 use numeral::Written;
-use record::Found;
 use record::Record;
 
 fn main() {
@@ -168,7 +168,7 @@ fn code(text: &[u8]) {
 fn records(file: &[u8]) {
     let mut i = 0;
     while i < 8 {
-        match Record::read(file, i) {
+        match file::read(file, i) {
             Found::At(r) => one(r),
             Found::Past => {
                 say::text(b"past");
@@ -189,7 +189,7 @@ fn one(r: Record) {
     say::number(r.x());
     say::number(r.y());
     let mut copy = [0u8; 72];
-    if r.put(&mut copy, 1) {
+    if file::put(r, &mut copy, 1) {
         say::bytes(&copy);
     }
 }

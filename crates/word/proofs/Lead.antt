@@ -9,8 +9,8 @@ use borrow.Author.Tests.{eq-eqb, ne-eqb, eqb-true}
 use lib.Dec.{eqb}
 use lib.ListN.{length, take, drop, getD, length-append, take-append-drop}
 use lib.Seq.{take-at, drop-at}
-use Rattle.record.specs.Range.{Bytes}
-use Rattle.record.proofs.Laws.{drop-bytes}
+use Rattle.little.specs.Little.{Bytes}
+use Rattle.little.proofs.Laws.{drop-bytes}
 use Rattle.text.specs.Text.{bytes}
 use Rattle.word.specs.Words.{keys, values, words, upper, same, firstWhere, wordOf}
 use Rattle.word.specs.Lookup.{stems, nodes, nodeOf, marked, stretch, keyOf, placeIn, nextOf}

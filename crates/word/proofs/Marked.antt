@@ -6,7 +6,7 @@ use native.Mathlib.Nat.{pow-suc, pow-le-pow-right}
 use native.Mathlib.Omega.{arith}
 use lib.ListN.{length, take, drop, getD}
 use lib.Seq.{drop-cons}
-use Rattle.record.specs.Range.{Bytes}
+use Rattle.little.specs.Little.{Bytes}
 use Rattle.word.specs.Words.{raised, upper}
 use Rattle.word.specs.Lookup.{marked}
 

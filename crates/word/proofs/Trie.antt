@@ -9,7 +9,7 @@ use native.Mathlib.Omega.{arith}
 use borrow.Author.Tests.{eq-eqb, leb-true, lt-leb}
 use lib.Dec.{eqb, leb}
 use lib.ListN.{length, take, getD}
-use Rattle.record.specs.Range.{Bytes}
+use Rattle.little.specs.Little.{Bytes}
 use Rattle.word.specs.Words.{keys, values, words, same, firstWhere}
 use Rattle.word.specs.Lookup.{stems, nodes, nodeOf, marked, stretch, keyOf, keyed}
 use Rattle.word.proofs.Words.{clash, same-eq, both}

@@ -6,8 +6,8 @@ use native.Mathlib.Decide.{decLt}
 use native.Mathlib.Omega.{arith}
 use lib.ListN.{length, take, drop, getD, length-take, length-drop}
 use lib.Seq.{take-add, take-all, length-take-le}
-use Rattle.record.specs.Range.{Bytes}
-use Rattle.record.proofs.Laws.{take-bytes, drop-bytes}
+use Rattle.little.specs.Little.{Bytes}
+use Rattle.little.proofs.Laws.{take-bytes, drop-bytes}
 use Rattle.word.specs.Words.{upper}
 use Rattle.word.specs.Lookup.{nodeOf, marked, nextOf}
 use Rattle.word.proofs.Words.{upper-at, raised-small}

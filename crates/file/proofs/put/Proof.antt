@@ -1,9 +1,9 @@
--- `Record::put` meets its contract: the test is that of `hasRoom`, and what `lay` leaves is what `stored` says.
+-- `file::put` meets its contract: the test is that of `hasRoom`, and what `lay` leaves is what `stored` says.
 use borrow.Author.Needs.{needs}
 use borrow.Author.Tests.{lt-ltb, le-ltb}
-use Rattle.record.specs.File.{stored}
-use Rattle.record.proofs.Record.put.Statement.{statement}
-use Rattle.record.proofs.Record.put.Tie as tie
+use Rattle.file.specs.File.{stored}
+use Rattle.file.proofs.put.Statement.{statement}
+use Rattle.file.proofs.put.Tie as tie
 
 pub put-spec : {M : Type 1} → statement M
 unfolding stored

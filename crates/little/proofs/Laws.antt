@@ -1,0 +1,45 @@
+-- A number that fits n bytes is the number of its n low bytes, bytes are the low bytes of their number, and parts of bytes are bytes.
+use Prim.Native.Nat.{ℕ, zero, suc, _+_, _*_, _/_, _%_, _^_, _<_}
+use mathlib.Core.Path.{_≡_, refl}
+use mathlib.Core.List.{List, [], _∷_}
+use native.Mathlib.Nat.{pow-zero, pow-suc, div-lt-iff-lt-mul}
+use native.Mathlib.Omega.{arith}
+use lib.ListN.{length, take, drop, getD}
+use lib.Seq.{getD-drop}
+use Rattle.little.specs.Little.{little, number, Bytes}
+
+-- a number that fits n bytes is the number of its n low bytes
+pub number-little : (n v : ℕ) → v < 256 ^ n → number (little n v) ≡ v
+unfolding little number
+number-little zero v h = omega (arith, rw (pow-zero 256) at h)
+number-little (suc n) v h =
+    let q : v / 256 < 256 ^ n = div-lt-iff-lt-mul {k = 256} {x = v} {y = 256 ^ n} (omega arith) .1 (rw (pow-suc 256 n) at h) in
+    rw (number-little n (v / 256) q) (omega arith)
+
+-- bytes are the low bytes of their number
+pub little-number : (l : List ℕ) → Bytes l → little (length l) (number l) ≡ l
+unfolding little number
+little-number [] h = refl
+little-number (b ∷ l) h =
+    let q : b < 256 = h 0 in
+    let m : (b + 256 * number l) % 256 ≡ b = omega arith in
+    let d : (b + 256 * number l) / 256 ≡ number l = omega arith in
+    rw (m, d, little-number l (λ i. h (suc i)))
+
+-- the number of one byte is that byte, and past the end nought
+pub one : (o : ℕ) (l : List ℕ) → number (take 1 (drop o l)) ≡ getD l o 0
+unfolding number
+one zero [] = refl
+one (suc o) [] = refl
+one zero (b ∷ l) = omega arith
+one (suc o) (b ∷ l) = one o l
+
+-- parts of bytes are bytes
+pub take-bytes : (n : ℕ) (l : List ℕ) → Bytes l → Bytes (take n l)
+take-bytes zero l h i = omega arith
+take-bytes (suc n) [] h i = omega arith
+take-bytes (suc n) (b ∷ l) h zero = h 0
+take-bytes (suc n) (b ∷ l) h (suc i) = take-bytes n l (λ j. h (suc j)) i
+
+pub drop-bytes : (o : ℕ) (l : List ℕ) → Bytes l → Bytes (drop o l)
+drop-bytes o l h i = rw getD-drop (h (o + i))
