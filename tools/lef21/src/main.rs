@@ -1,7 +1,7 @@
 //! Asks lef21 0.2.0 and its rust_decimal what they make of the texts on standard input, one a line in hexadecimal, and
 //! prints each answer on a line, in the words of this repository's programs.
 //!
-//! tokens:   `KIND START STOP LINE` for each token, then `end LINE` or `bad PLACE LINE`
+//! tokens:   `KIND START STOP LINE` for each token, then `end` or `bad PLACE LINE`
 //! numerals: `- MILLIONTHS`, `+ MILLIONTHS`, or `not` where rust_decimal refuses, or millionths are not whole or too many
 //! decimals: the number itself as rust_decimal holds it, `MANTISSA SCALE`, or `refused`
 //! outcomes: `read`, or the refusal's number with place and line (`-` where the original gives none)

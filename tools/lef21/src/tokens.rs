@@ -26,7 +26,7 @@ fn lexed_bad(e: LefError) -> String {
     }
 }
 
-/// All tokens of a text. The line at its end is that of a token put behind it.
+/// All tokens of a text.
 pub fn all(src: &str) -> String {
     let mut out = Vec::new();
     let mut lex = match LefLexer::new(src) {
