@@ -1,10 +1,10 @@
 -- What is ahead of the code, one step of the lexer further: the laws of `next_token`.
-use Prim.Native.Nat.{ℕ, _-_, _≤_, _<_}
-use mathlib.Core.Path.{_≡_, sym, _∙_}
+use Prim.Native.Nat.{ℕ, zero, suc, _+_, _-_, _≤_, _<_}
+use mathlib.Core.Path.{_≡_, refl, sym, ap, _∙_}
 use mathlib.Core.List.{List, [], _∷_, map}
 use native.Mathlib.Omega.{arith}
 use borrow.Author.Tests.{ne-eqb, eq-eqb}
-use lib.ListN.{length, take, drop, drop-of-length-le, length-drop}
+use lib.ListN.{length, take, drop, drop-of-length-le, length-take, length-drop}
 use lib.Seq.{take-all, take-nil}
 use Rattle.lexer.specs.declared.Token.{Token}
 use Rattle.lexer.specs.declared.Lexed.{Lexed}
@@ -60,3 +60,17 @@ module _ (s : List ℕ) (a e : ℕ) where
 
   pub turned : e < a → [] ≡ take (e - a) (drop a s)
   turned h = let z : e - a ≡ 0 = omega arith in rw z
+
+-- as many bytes of a list as a part from its front has are that part
+pub as-long : (n : ℕ) (l : List ℕ) → take (length (take n l)) l ≡ take n l
+as-long zero l = refl
+as-long (suc n) [] = refl
+as-long (suc n) (b ∷ l) = ap (b ∷_) (as-long n l)
+
+-- what stands inside quotes, of a token whose length is known
+pub inside-long : (n : ℕ) (l : List ℕ) → length l ≡ n + 2 → length (take n (drop 1 l)) ≡ n
+inside-long n l e = omega (arith, length-take n (drop 1 l), length-drop 1 l, e)
+
+-- a part that has bytes starts within the text
+pub span-within : (s : List ℕ) (a n k : ℕ) → length (take n (drop a s)) ≡ k → 1 ≤ k → a < length s
+span-within s a n k e h = omega (arith, length-take n (drop a s), length-drop a s, e, h)

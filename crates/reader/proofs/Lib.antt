@@ -3,6 +3,7 @@ pub mod Answers
 pub mod Takes
 pub mod Kept
 pub mod Steps
+pub mod Acts
 pub mod Turned
 pub mod Falls
 pub mod Rises

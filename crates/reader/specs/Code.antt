@@ -66,6 +66,10 @@ abbrev pub whyNumber : Number → Refusal
 whyNumber (N.Value v t) = complaint 0 t
 whyNumber (N.Refused r) = r
 
+abbrev pub whyPoint : Point → Refusal
+whyPoint (P.At v w t) = complaint 0 t
+whyPoint (P.Refused r) = r
+
 abbrev pub whyWord : Word → Refusal
 whyWord (W.Is k t) = complaint 0 t
 whyWord (W.Refused r) = r

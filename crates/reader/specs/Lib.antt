@@ -6,5 +6,7 @@ pub mod Turns
 pub mod Reading
 pub mod Examples
 pub mod Code
+pub mod Open
+pub mod Stepped
 pub mod Standing
 pub mod Listed

@@ -6,7 +6,7 @@ ghost use Prim.Native.Nat.{ℕ};
 ghost use Rattle.reader.specs.Grammar.{x, y, key, keyword, semi, value, among};
 ghost use Rattle.reader.specs.Engine.{Frame, Draft, items, member};
 ghost use Rattle.reader.specs.Table.{versions, microns};
-ghost use Rattle.reader.specs.Code.{aheadOf, afterWord, asX, asXY, asCode, whyNumber, whyWord};
+ghost use Rattle.reader.specs.Code.{aheadOf, afterWord, asX, asXY, asCode, whyPoint, whyNumber, whyWord};
 use crate::take;
 use crate::take::Number;
 use crate::take::Taken;
@@ -201,6 +201,16 @@ pub fn parse_antenna_model(text: &[u8], held: Token, kind: u8) -> Word
         return Word::Refused(take::taken_refusal(k));
     };
     take::parse_enum(text, first, kind)
+}
+
+// What a point was refused for.
+pub fn point_refusal(t: Point) -> Refusal
+    ensures { λ r. ⌜ r ≡ whyPoint t ⌝ }
+{
+    match t {
+        Point::At(_, _, next) => take::complain(0, next),
+        Point::Refused(r) => r,
+    }
 }
 
 // What a number was refused for.

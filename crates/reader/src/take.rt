@@ -6,7 +6,8 @@ ghost use lib.ListN.{take, drop};
 ghost use Rattle.reader.specs.Tokens.{expect};
 ghost use Rattle.reader.specs.Tokens.{take as taking};
 ghost use Rattle.reader.specs.Engine.{get-name, get-key, expect-key, expect-keyword, expect-ident, parse-number, parse-enum};
-ghost use Rattle.reader.specs.Code.{complaint, bytesOf, aheadOf, asTaken, asNumber, asWord, whyTaken};
+ghost use Rattle.reader.specs.Code.{complaint, aheadOf, asTaken, asNumber, asWord, whyTaken};
+ghost use Rattle.reader.specs.Open.{nameIn};
 ghost use Rattle.word.specs.Words.{same};
 ghost use Rattle.word.specs.Codes.{codeOf};
 use lexer::Lexed;
@@ -149,19 +150,33 @@ pub fn expect_keyword(text: &[u8], held: Token, key: u8) -> Word
     }
 }
 
-// The name of the token `title` again, byte by byte.
-pub fn expect_ident(text: &[u8], held: Token, title: Token) -> Taken
-    ensures { λ r. ⌜ asTaken (now (text .entry)) held r ≡ expect-ident (bytesOf (now (text .entry)) title) (aheadOf (now (text .entry)) held) ⌝ }
+// The name of so many bytes at a place of the text again, byte by byte.
+pub fn expect_ident(text: &[u8], held: Token, title: usize, len: usize) -> Taken
+    ensures { λ r. ⌜ asTaken (now (text .entry)) held r ≡ expect-ident (nameIn (now (text .entry)) title len) (aheadOf (now (text .entry)) held) ⌝ }
 {
     let answer = get_name(text, held);
     let Taken::Next(next) = answer else {
         return answer;
     };
-    if same_bytes(txt(text, held), txt(text, title)) {
+    if same_bytes(txt(text, held), name_in(text, title, len)) {
         Taken::Next(next)
     } else {
         Taken::Refused(complain(7, next))
     }
+}
+
+// The name of so many bytes at a place, as far as the text goes.
+pub fn name_in(text: &[u8], start: usize, len: usize) -> &[u8]
+    ensures { λ r. ⌜ now r ≡ nameIn (now (text .entry)) start len ⌝ }
+{
+    if text.len() <= start {
+        return &text[0..0];
+    }
+    if text.len() - start <= len {
+        return &text[start..];
+    }
+    let stop = start + len;
+    &text[start..stop]
 }
 
 pub fn same_bytes(a: &[u8], b: &[u8]) -> bool

@@ -5,18 +5,14 @@
 //   w TEXT           the number of a key word, `value` for another word that is known, or `none`
 //   c KIND TEXT      the code of a value of a kind of record (one byte): a word, or two with a space between them
 //   r FILE           the records of a record file: the fields of each, then the bytes of a buffer of two records after it was put second
-ghost use Prim.Native.Nat.{_≤_};
-ghost use lib.ListN.{length};
-
-mod hex;
-mod say;
-
 use file::Found;
 use lexer::Answer;
 use lexer::Lexed;
 use numeral::Value;
 use numeral::Written;
 use record::Record;
+use vectors::hex;
+use vectors::say;
 
 fn main() {
     let mut input = io::large_buffer();
@@ -27,30 +23,18 @@ fn main() {
 fn lines(input: &[u8]) {
     let mut at = 0;
     while at < input.len() {
-        let stop = next_of(b'\n', input, at);
+        let stop = vectors::next_of(b'\n', input, at);
         line(&input[at..stop]);
         at = stop + 1;
     }
 }
 
-// The place of the next such byte from a place on, or the end.
-fn next_of(byte: u8, input: &[u8], at: usize) -> usize
-    requires { ⌜ at ≤ length (now input) ⌝ }
-    ensures { λ r. ⌜ (at ≤ r) × (r ≤ length (now (input .entry))) ⌝ }
-{
-    let mut i = at;
-    while i < input.len() && input[i] != byte {
-        i += 1;
-    }
-    i
-}
-
 fn line(part: &[u8]) {
     let mut text = [0u8; 256];
-    let n = hex::bytes(part, &mut text);
     if part.len() == 0 {
         return;
     }
+    let n = hex::bytes(&part[1..], &mut text);
     let letter = part[0];
     match letter {
         b't' => tokens(&text[0..n]),
@@ -154,7 +138,7 @@ fn code(text: &[u8]) {
         return;
     }
     let kind = text[0];
-    let stop = next_of(b' ', text, 1);
+    let stop = vectors::next_of(b' ', text, 1);
     let first = word::word_of(&text[1..stop]);
     if stop < text.len() {
         let next = stop + 1;

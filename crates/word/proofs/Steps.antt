@@ -13,11 +13,11 @@ abbrev pub Nested : ℕ → List ℕ → Type 0 → Type 0
 Nested key [] A = A
 Nested key (k ∷ ks) A = Nested key ks (A × (key ≡ k → ⊥))
 
-abbrev Apart : ℕ → List ℕ → Type 0
+abbrev pub Apart : ℕ → List ℕ → Type 0
 Apart key [] = Unit {0}
 Apart key (k ∷ ks) = (key ≡ k → ⊥) × Apart key ks
 
-apart : (key : ℕ) (ks : List ℕ) (A : Type 0) → Nested key ks A → A × Apart key ks
+pub apart : (key : ℕ) (ks : List ℕ) (A : Type 0) → Nested key ks A → A × Apart key ks
 apart key [] A x = (x, tt)
 apart key (k ∷ ks) A x = let r = apart key ks (A × (key ≡ k → ⊥)) x in (r .0 .0, (r .0 .1, r .1))
 

@@ -11,5 +11,5 @@ expect-ident-spec =
     (tie.spec (λ c κs. search needs) (λ c. search needs) (λ c. search needs)
     (λ c. simp (c .enum-told .given .1, ← (c .before .before .get-name .ensures)))
     (λ c κs. search needs) (λ c κs. search needs) (λ c κs. search needs) (λ c κs. search needs)
-    (λ c. simp (c .if1 .taken, ← (rw (c .before .before .txt2 .ensures, c .before .before .before .txt .ensures) at (c .before .same-bytes .ensures)), c .before .before .before .before .before .answer .given .1, ← (c .before .before .before .before .before .before .before .get-name .ensures)))
-    (λ c. simp (c .complain .ensures, c .before .if1 .left, ← (rw (c .before .before .before .txt2 .ensures, c .before .before .before .before .txt .ensures) at (c .before .before .same-bytes .ensures)), c .before .before .before .before .before .before .answer .given .1, ← (c .before .before .before .before .before .before .before .before .get-name .ensures))))
+    (λ c. simp (c .if1 .taken, ← (rw (c .before .before .name-in .ensures, c .before .before .before .txt .ensures) at (c .before .same-bytes .ensures)), c .before .before .before .before .before .answer .given .1, ← (c .before .before .before .before .before .before .before .get-name .ensures)))
+    (λ c. simp (c .complain .ensures, c .before .if1 .left, ← (rw (c .before .before .before .name-in .ensures, c .before .before .before .before .txt .ensures) at (c .before .before .same-bytes .ensures)), c .before .before .before .before .before .before .answer .given .1, ← (c .before .before .before .before .before .before .before .before .get-name .ensures))))

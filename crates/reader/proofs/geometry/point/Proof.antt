@@ -1,0 +1,21 @@
+-- `reader::geometry::point` meets its contract: the point is the answer of `parse_point`.
+use borrow.Author.Needs.{needs}
+use Rattle.record.specs.Kinds.{POINT}
+use Rattle.reader.specs.Engine.{blank}
+use Rattle.reader.specs.Code.{aheadOf}
+use Rattle.reader.specs.Stepped.{moveOf}
+use Rattle.reader.proofs.geometry.point.Statement.{statement}
+use Rattle.reader.proofs.geometry.point.Tie as tie
+
+pub point-spec : {M : Type 1} → statement M
+unfolding moveOf
+point-spec =
+    tie.close
+    (tie.spec
+    (λ c κs. search needs)
+    (λ c. search needs)
+    (λ c. search needs)
+    (λ c κs. search needs)
+    (λ c f e. simp (c .point-refusal .ensures, c .before .enum-told .given .1, ← (c .before .before .before .parse-point .ensures f (blank POINT f (aheadOf (c .before .before .before .before .before .args .text .now) (c .before .before .before .before .before .args .held))))))
+    (λ c κs. search needs)
+    (λ c f e. simp (c .point .ensures, c .before .before .a .given .1, ← (c .before .before .before .before .parse-point .ensures f (blank POINT f (aheadOf (c .before .before .before .before .before .before .args .text .now) (c .before .before .before .before .before .before .args .held))))) (simp e)))

@@ -1,0 +1,14 @@
+-- `reader::layer::except_pg_net` meets its contract: the record has its code and nothing else.
+use borrow.Author.Needs.{needs}
+use Rattle.reader.specs.Engine.{item, items}
+use Rattle.reader.specs.Stepped.{moveOf}
+use Rattle.reader.proofs.layer.except_pg_net.Statement.{statement}
+use Rattle.reader.proofs.layer.except_pg_net.Tie as tie
+
+pub except-pg-net-spec : {M : Type 1} → statement M
+unfolding item items moveOf
+except-pg-net-spec =
+    tie.close
+    (tie.spec
+    (λ c κs. search needs)
+    (λ c s f e. simp (e, c .except-pg-net .ensures)))

@@ -1,0 +1,22 @@
+-- `reader::pin::antenna_model` meets its contract: the code is the answer of `parse_antenna_model`.
+use borrow.Author.Needs.{needs}
+use Rattle.record.specs.Kinds.{ANTENNAMODEL}
+use mathlib.Core.Path.{refl}
+use Rattle.reader.specs.Engine.{blank}
+use Rattle.reader.specs.Code.{aheadOf}
+use Rattle.reader.specs.Stepped.{moveOf}
+use Rattle.reader.proofs.pin.antenna_model.Statement.{statement}
+use Rattle.reader.proofs.pin.antenna_model.Tie as tie
+
+pub antenna-model-spec : {M : Type 1} → statement M
+unfolding moveOf
+antenna-model-spec =
+    tie.close
+    (tie.spec
+    (λ c κs. search needs)
+    (λ c. search needs)
+    (λ c. search needs)
+    (λ c κs. search needs)
+    (λ c f e. simp (c .word-refusal .ensures, c .before .enum-told .given .1, ← (c .before .before .before .parse-antenna-model .ensures f (blank ANTENNAMODEL f (aheadOf (c .before .before .before .before .before .args .text .now) (c .before .before .before .before .before .args .held))) refl)))
+    (λ c κs. search needs)
+    (λ c f e. simp (c .antenna-model .ensures, c .before .before .a .given .1, ← (c .before .before .before .before .parse-antenna-model .ensures f (blank ANTENNAMODEL f (aheadOf (c .before .before .before .before .before .before .args .text .now) (c .before .before .before .before .before .before .args .held))) refl)) (simp e)))

@@ -1,0 +1,19 @@
+-- `reader::pin::port` meets its contract: the word is taken.
+use borrow.Author.Needs.{needs}
+use Rattle.reader.specs.Engine.{item, items}
+use Rattle.reader.specs.Stepped.{moveOf}
+use Rattle.reader.proofs.pin.port.Statement.{statement}
+use Rattle.reader.proofs.pin.port.Tie as tie
+
+pub port-spec : {M : Type 1} → statement M
+unfolding item items moveOf
+port-spec =
+    tie.close
+    (tie.spec
+    (λ c κs. search needs)
+    (λ c. search needs)
+    (λ c. search needs)
+    (λ c κs. search needs)
+    (λ c f e. simp (e, c .taken-refusal .ensures, c .before .enum-told .given .1, ← (c .before .before .before .next-token .ensures)))
+    (λ c κs. search needs)
+    (λ c f e. simp (e, c .port .ensures, c .before .before .a .given .1, ← (c .before .before .before .before .next-token .ensures))))

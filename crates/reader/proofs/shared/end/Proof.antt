@@ -1,0 +1,18 @@
+-- `reader::shared::end` meets its contract: .
+use borrow.Author.Needs.{needs}
+use Rattle.reader.specs.Engine.{item, items}
+use Rattle.reader.specs.Stepped.{moveOf}
+use Rattle.reader.proofs.shared.end.Statement.{statement}
+use Rattle.reader.proofs.shared.end.Tie as tie
+
+pub end-spec : {M : Type 1} → statement M
+unfolding item items moveOf
+end-spec =
+    tie.close
+    (tie.spec
+    (λ c κs. search needs)
+    (λ c. search needs)
+    (λ c. search needs)
+    (λ c κs. search needs)
+    (λ c f. simp (c .taken-refusal .ensures, c .before .enum-told .given .1, ← (c .before .before .before .next-token .ensures)))
+    (λ c f. simp (c .before .a .given .1, ← (c .before .before .before .next-token .ensures))))

@@ -1,0 +1,23 @@
+-- `reader::shared::end_name` meets its contract: .
+use borrow.Author.Needs.{needs}
+use Rattle.reader.specs.Engine.{item, items}
+use Rattle.reader.specs.Stepped.{moveOf}
+use Rattle.reader.proofs.shared.end_name.Statement.{statement}
+use Rattle.reader.proofs.shared.end_name.Tie as tie
+
+pub end-name-spec : {M : Type 1} → statement M
+unfolding item items moveOf
+end-name-spec =
+    tie.close
+    (tie.spec
+    (λ c κs. search needs)
+    (λ c. search needs)
+    (λ c. search needs)
+    (λ c κs. search needs)
+    (λ c f e. simp (e, c .taken-refusal .ensures, c .before .enum-told .given .1, ← (c .before .before .before .next-token .ensures)))
+    (λ c κs. search needs)
+    (λ c. search needs)
+    (λ c. search needs)
+    (λ c κs. search needs)
+    (λ c f e. simp (e, c .taken-refusal2 .ensures, c .before .enum-told2 .given .1, ← (c .before .before .before .expect-ident .ensures), c .before .before .before .before .before .a .given .1, ← (c .before .before .before .before .before .before .before .next-token .ensures)))
+    (λ c f e. simp (e, c .before .b .given .1, ← (c .before .before .before .expect-ident .ensures), c .before .before .before .before .before .a .given .1, ← (c .before .before .before .before .before .before .before .next-token .ensures))))

@@ -1,0 +1,14 @@
+-- `reader::shared::peeked_refusal` meets its contract: .
+use borrow.Author.Needs.{needs}
+use Rattle.reader.proofs.shared.peeked_refusal.Statement.{statement}
+use Rattle.reader.proofs.shared.peeked_refusal.Tie as tie
+
+pub peeked-refusal-spec : {M : Type 1} → statement M
+peeked-refusal-spec =
+    tie.close
+    (tie.spec
+    (λ c. search needs)
+    (λ c κs. search needs)
+    (λ c. search needs)
+    (λ c. simp (c .complain .ensures, c .before .enum-told .given .1))
+    (λ c. simp (c .before .t .given .1)))

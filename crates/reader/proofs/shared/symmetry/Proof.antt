@@ -1,0 +1,19 @@
+-- `reader::shared::symmetry` meets its contract: .
+use borrow.Author.Needs.{needs}
+use Rattle.reader.specs.Engine.{item, items}
+use Rattle.reader.specs.Stepped.{moveOf}
+use Rattle.reader.proofs.shared.symmetry.Statement.{statement}
+use Rattle.reader.proofs.shared.symmetry.Tie as tie
+
+pub symmetry-spec : {M : Type 1} → statement M
+unfolding item items moveOf
+symmetry-spec =
+    tie.close
+    (tie.spec
+    (λ c κs. search needs)
+    (λ c. search needs)
+    (λ c. search needs)
+    (λ c κs. search needs)
+    (λ c f e. simp (e, c .taken-refusal .ensures, c .before .enum-told .given .1, ← (c .before .before .before .next-token .ensures)))
+    (λ c κs. search needs)
+    (λ c f e. simp (e, c .symmetry .ensures, c .before .before .a .given .1, ← (c .before .before .before .before .next-token .ensures))))

@@ -1,0 +1,144 @@
+// The state between two turns: the token held, the version in force, and what is kept of the open blocks.
+ghost use mathlib.Core.Path.{_≡_};
+ghost use mathlib.Core.List.{List};
+ghost use Prim.Native.Nat.{ℕ, _-_};
+ghost use Rattle.reader.specs.Reading.{start};
+ghost use Rattle.reader.specs.Open.{aroundLayer, around, firstOf, stateOf, movedTo};
+use lexer::Token;
+use record::Record;
+use record::kind;
+
+pub enum Block {
+    Library,
+    Units,
+    Site,
+    Symmetry,
+    Macro,
+    Pin,
+    Port,
+    Obs,
+    Options,
+    Layer,
+    Rect,
+    Polygon,
+    Path,
+}
+
+pub struct State {
+    pub held: Token,
+    // The version, in millionths.
+    pub version: u64,
+    // The innermost block.
+    pub block: Block,
+    // Where the UNITS, SITE or MACRO starts, and its name.
+    pub outer: usize,
+    pub title: usize,
+    pub title_len: usize,
+    // What the SITE lacks.
+    pub classless: bool,
+    pub sizeless: bool,
+    // Where the PIN starts, and its name.
+    pub pin: usize,
+    pub pin_title: usize,
+    pub pin_len: usize,
+    // Where the PORT or OBS starts, and which of them it is.
+    pub inner: usize,
+    pub in_port: bool,
+    // Where the LAYER starts.
+    pub layer: usize,
+    // Where the SYMMETRY, RECT, POLYGON or PATH starts, whether the SYMMETRY is a site's, and the points still lacking.
+    pub part: usize,
+    pub in_site: bool,
+    pub wants: u8,
+}
+
+impl State {
+    // The library, before any statement: version 5.8 holds.
+    pub fn start(held: Token) -> Self
+        ensures { λ r. ⌜ (r .held ≡ held) × ((s : List ℕ) → stateOf s r ≡ start) ⌝ }
+    {
+        Self {
+            held,
+            version: 5800000,
+            block: Block::Library,
+            outer: 0,
+            title: 0,
+            title_len: 0,
+            classless: false,
+            sizeless: false,
+            pin: 0,
+            pin_title: 0,
+            pin_len: 0,
+            inner: 0,
+            in_port: false,
+            layer: 0,
+            part: 0,
+            in_site: false,
+            wants: 0,
+        }
+    }
+
+    // The same but for the innermost block and the token held.
+    pub fn moved(self, block: Block, held: Token) -> Self
+        ensures { λ r. ⌜ r ≡ movedTo block held self ⌝ }
+    {
+        Self {
+            held,
+            version: self.version,
+            block,
+            outer: self.outer,
+            title: self.title,
+            title_len: self.title_len,
+            classless: self.classless,
+            sizeless: self.sizeless,
+            pin: self.pin,
+            pin_title: self.pin_title,
+            pin_len: self.pin_len,
+            inner: self.inner,
+            in_port: self.in_port,
+            layer: self.layer,
+            part: self.part,
+            in_site: self.in_site,
+            wants: self.wants,
+        }
+    }
+
+    // The block around the innermost.
+    pub fn outer_block(self) -> Block
+        ensures { λ r. ⌜ r ≡ firstOf (around self (self .block)) ⌝ }
+    {
+        let block = self.block;
+        match block {
+            Block::Library => Block::Library,
+            Block::Units => Block::Library,
+            Block::Site => Block::Library,
+            Block::Macro => Block::Library,
+            Block::Symmetry => {
+                if self.in_site {
+                    Block::Site
+                } else {
+                    Block::Macro
+                }
+            }
+            Block::Pin => Block::Macro,
+            Block::Port => Block::Pin,
+            Block::Obs => Block::Macro,
+            Block::Options => self.layer_block(),
+            Block::Layer => self.layer_block(),
+            Block::Rect => Block::Layer,
+            Block::Polygon => Block::Layer,
+            Block::Path => Block::Layer,
+        }
+    }
+
+    // The block that has the layer.
+    fn layer_block(self) -> Block
+        ensures { λ r. ⌜ r ≡ firstOf (aroundLayer (self .«in_port»)) ⌝ }
+    {
+        if self.in_port {
+            Block::Port
+        } else {
+            Block::Obs
+        }
+    }
+}

@@ -1,0 +1,64 @@
+// A turn: one step of the innermost block, and the state that follows.
+ghost use mathlib.Core.Path.{_≡_};
+ghost use Rattle.reader.specs.Table.{body};
+ghost use Rattle.reader.specs.Open.{blockOf, frameOf};
+ghost use Rattle.reader.specs.Stepped.{asStep, stepIn};
+use crate::geometry;
+use crate::layer;
+use crate::library;
+use crate::macros;
+use crate::pin;
+use crate::port;
+use crate::site;
+use crate::state::Block;
+use crate::state::State;
+use crate::step::Step;
+use crate::units;
+use record::Record;
+use refusal::Refusal;
+
+// At most one record, and the state that follows.
+pub enum Turn {
+    Emit(Record, State),
+    Moved(State),
+    Done,
+    Refused(Refusal),
+}
+
+// What the innermost block makes of what is ahead.
+fn one_step(text: &[u8], st: State) -> Step
+    ensures { λ r. ⌜ asStep (now (text .entry)) r ≡ stepIn (now (text .entry)) (st .version) (frameOf (now (text .entry)) st (st .block)) (st .held) (body (blockOf (st .block))) ⌝ }
+{
+    let held = st.held;
+    let block = st.block;
+    match block {
+        Block::Library => library::parse_lib(text, held, st.version),
+        Block::Units => units::parse_units(text, held, st.outer),
+        Block::Site => site::parse_site_def(
+            text,
+            held,
+            st.outer,
+            st.title,
+            st.title_len,
+            st.classless,
+            st.sizeless,
+        ),
+        Block::Symmetry => site::parse_symmetries(text, held, st.part),
+        Block::Macro => macros::parse_macro(
+            text,
+            held,
+            st.outer,
+            st.title,
+            st.title_len,
+            st.version,
+        ),
+        Block::Pin => pin::parse_pin(text, held, st.pin, st.pin_title, st.pin_len),
+        Block::Port => port::parse_port(text, held, st.inner),
+        Block::Obs => port::parse_obstructions(text, held, st.inner),
+        Block::Options => layer::parse_options(text, held, st.layer),
+        Block::Layer => layer::parse_layer_geometries(text, held, st.layer),
+        Block::Rect => geometry::parse_rect(text, held, st.part, st.wants),
+        Block::Polygon => geometry::parse_point_list(text, held, st.part, st.wants),
+        Block::Path => geometry::parse_point_list(text, held, st.part, st.wants),
+    }
+}
