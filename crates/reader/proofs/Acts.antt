@@ -12,12 +12,12 @@ use Rattle.word.specs.Words.{keys, values, words, raised, upper, same, firstWhe
 use Rattle.word.proofs.Steps.{Nested, Apart, apart}
 use Rattle.reader.specs.declared.shared.Peeked.{Peeked}
 use Rattle.reader.specs.declared.shared.Peeked.the-variants as K
-use Rattle.reader.specs.Tokens.{ok, take}
-use Rattle.reader.specs.Grammar.{Library, Units, Site, Macro, Pin, Port, Obs, Options, Layer, Act, refuse, Row, Body, keyed, worded, options, parts, counted}
-use Rattle.reader.specs.Table.{body}
-use Rattle.reader.specs.Engine.{Rec, Frame, get-name}
-use Rattle.reader.specs.Turns.{Step, halts, actFor, perform, peek-key, judged, step}
-use Rattle.reader.specs.Reading.{Mark}
+use Rattle.grammar.specs.Tokens.{ok, take}
+use Rattle.grammar.specs.Grammar.{Library, Units, Site, Macro, Pin, Port, Obs, Options, Layer, Act, refuse, Row, Body, keyed, worded, options, parts, counted}
+use Rattle.grammar.specs.Table.{body}
+use Rattle.grammar.specs.Engine.{Rec, Frame, get-name}
+use Rattle.grammar.specs.Turns.{Step, halts, actFor, perform, peek-key, judged, step}
+use Rattle.grammar.specs.Reading.{Mark}
 use Rattle.reader.specs.Code.{bytesOf, tokOf, aheadOf}
 use Rattle.reader.specs.Stepped.{Entry, filedStep, asPeeked, stepIn}
 

@@ -12,20 +12,16 @@ use Rattle.lexer.specs.declared.Lexed.the-variants.{Found, End, Bad}
 use Rattle.lexer.specs.Lex.{from, rest, lexFrom}
 use Rattle.lexer.proofs.Whole.{unrolls}
 use Rattle.lexer.proofs.Kinded.{kinded}
-use Rattle.reader.specs.Tokens.{ok, refused, next}
-use Rattle.reader.specs.Tokens.{take as taking}
-use Rattle.reader.specs.Reading.{tok}
-use Rattle.reader.specs.Code.{tokOf, restOf, aheadOf}
-
--- the end of the text as a token
-abbrev pub endOf : List ℕ → ℕ → Token
-endOf s n = record { kind = 0; start = length s; stop = length s; line = n }
+use Rattle.grammar.specs.Tokens.{refused, next}
+use Rattle.grammar.specs.Tokens.{take as taking}
+use Rattle.grammar.specs.Reading.{tok}
+use Rattle.reader.specs.Code.{restOf, aheadOf, heldNext, asTaken}
 
 -- the tokens from a place on, by the first
 opened : (s : List ℕ) (i n : ℕ) (r : Lexed) → r ≡ lexFrom s i n → map (tok s) (from s i n) ≡ tok s r ∷ map (tok s) (rest s r)
 opened s i n r q = rw (unrolls s i n, q)
 
-end-bytes : (s : List ℕ) → take (length s - length s) (drop (length s) s) ≡ []
+pub end-bytes : (s : List ℕ) → take (length s - length s) (drop (length s) s) ≡ []
 end-bytes s = let z : length s - length s ≡ 0 = omega arith in rw z
 
 -- the end is not taken
@@ -33,20 +29,18 @@ pub at-end : (s : List ℕ) (h : Token) → h .kind ≡ 0 → taking (aheadOf s 
 unfolding next restOf
 at-end s h z = rw (eq-eqb (h .kind) 0 z)
 
-module _ (s : List ℕ) (h : Token) (r : Lexed) (q : r ≡ lexFrom s (h .stop) (h .line)) where
-  pub to-found : (h .kind ≡ 0 → ⊥) → (t : Token) → r ≡ Found t → taking (aheadOf s h) ≡ ok (tokOf s h) (aheadOf s t)
+-- any other token is, and the lexer's answer from its stop on is held next
+module _ (s : List ℕ) (h : Token) (z : h .kind ≡ 0 → ⊥) where
+  taken : (r : Lexed) → r ≡ lexFrom s (h .stop) (h .line) → asTaken s h (heldNext s r) ≡ taking (aheadOf s h)
   unfolding next restOf
-  to-found z t e =
-      let k : (1 ≤ t .kind) × (t .kind ≤ 4) = rw (← q, e) at (kinded s (h .stop) (h .line)) in
-      rw (ne-eqb (h .kind) 0 z, opened s (h .stop) (h .line) r q, e, ne-eqb (t .kind) 5 (omega arith), ne-eqb (t .kind) 0 (omega arith))
+  taken (Found t) q =
+      let k : (1 ≤ t .kind) × (t .kind ≤ 4) = rw (← q) at (kinded s (h .stop) (h .line)) in
+      sym (rw (ne-eqb (h .kind) 0 z, opened s (h .stop) (h .line) (Found t) q, ne-eqb (t .kind) 5 (omega arith), ne-eqb (t .kind) 0 (omega arith)))
+  taken (End n) q = sym (rw (ne-eqb (h .kind) 0 z, opened s (h .stop) (h .line) (End n) q, end-bytes s))
+  taken (Bad i n) q = sym (rw (ne-eqb (h .kind) 0 z, opened s (h .stop) (h .line) (Bad i n) q))
 
-  pub to-end : (h .kind ≡ 0 → ⊥) → (n : ℕ) → r ≡ End n → taking (aheadOf s h) ≡ ok (tokOf s h) (aheadOf s (endOf s n))
-  unfolding next restOf
-  to-end z n e = rw (ne-eqb (h .kind) 0 z, opened s (h .stop) (h .line) r q, e, end-bytes s)
-
-  pub to-bad : (h .kind ≡ 0 → ⊥) → (i n : ℕ) → r ≡ Bad i n → taking (aheadOf s h) ≡ refused 3 (record { place = i; line = n })
-  unfolding next restOf
-  to-bad z i n e = rw (ne-eqb (h .kind) 0 z, opened s (h .stop) (h .line) r q, e)
+  pub not-end : asTaken s h (heldNext s (lexFrom s (h .stop) (h .line))) ≡ taking (aheadOf s h)
+  not-end = taken (lexFrom s (h .stop) (h .line)) refl
 
 -- the bytes of a span that reaches outside the text
 module _ (s : List ℕ) (a e : ℕ) where

@@ -13,11 +13,11 @@ use Rattle.reader.specs.declared.take.Taken.{Taken}
 use Rattle.reader.specs.declared.take.Taken.the-variants as N
 use Rattle.reader.specs.declared.take.Word.{Word}
 use Rattle.reader.specs.declared.take.Word.the-variants as W
-use Rattle.reader.specs.Tokens.{Tok, Ahead, Answer, ok, refused, then, matches, expect}
-use Rattle.reader.specs.Grammar.{Item, Move, key, name, x, y, semi, code, ifMore, noName, whole}
-use Rattle.reader.specs.Engine.{Rec, Frame, Draft, setX, setCode, setName, nameOf, get-name, expect-key, parse-number, empty, item, passed, items}
-use Rattle.reader.specs.Turns.{Step, gives, halts, given, ended}
-use Rattle.reader.specs.Reading.{Mark}
+use Rattle.grammar.specs.Tokens.{Tok, Ahead, Answer, ok, refused, then, matches, expect}
+use Rattle.grammar.specs.Grammar.{Item, Move, key, name, x, y, semi, code, ifMore, noName, whole}
+use Rattle.grammar.specs.Engine.{Rec, Frame, Draft, setX, setCode, setName, nameOf, get-name, expect-key, parse-number, empty, item, passed, items}
+use Rattle.grammar.specs.Turns.{Step, gives, halts, given, ended}
+use Rattle.grammar.specs.Reading.{Mark}
 use Rattle.reader.specs.Open.{siteLacks, points}
 use Rattle.reader.specs.Code.{tokOf, asTaken, asWord, asCode, afterWord}
 use Rattle.reader.specs.Stepped.{asNamed}

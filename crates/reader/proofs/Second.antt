@@ -8,7 +8,7 @@ use borrow.Author.Tests.{ne-eqb}
 use Rattle.record.specs.Kinds.{MACRO-CLASS, DIRECTION, NAMESCASESENSITIVE, NOWIREEXTENSIONATPIN, SITE-CLASS, SYMMETRY-WORD, USE, SHAPE, ANTENNAMODEL, ANTENNA, PORT-CLASS, LAYER-OPTION}
 use Rattle.word.specs.Codes.{onOff, siteClasses, symmetries, uses, shapes, antennaModels, antennaKeys, portClasses, layerOptions, valuesOf}
 use Rattle.word.proofs.Words.{both}
-use Rattle.reader.specs.Engine.{goesOn}
+use Rattle.grammar.specs.Engine.{goesOn}
 
 -- no value of the list has a second word
 unfoldable single : List ℕ → Bool

@@ -3,10 +3,13 @@ use Prim.Native.Nat.{ℕ, _-_}
 use mathlib.Core.Bool.{cond}
 use mathlib.Core.List.{List, [], map}
 use lib.Dec.{eqb}
-use lib.ListN.{take, drop}
+use lib.ListN.{length, take, drop}
 use Rattle.refusal.specs.declared.Refusal.{Refusal}
+use Rattle.refusal.specs.Table.{noToken}
 use Rattle.refusal.specs.Table.{refused as refusal}
 use Rattle.lexer.specs.declared.Token.{Token}
+use Rattle.lexer.specs.declared.Lexed.{Lexed}
+use Rattle.lexer.specs.declared.Lexed.the-variants.{Found, End, Bad}
 use Rattle.lexer.specs.Lex.{from}
 use Rattle.reader.specs.declared.take.Taken.{Taken}
 use Rattle.reader.specs.declared.take.Taken.the-variants as T
@@ -16,11 +19,11 @@ use Rattle.reader.specs.declared.take.Word.{Word}
 use Rattle.reader.specs.declared.take.Word.the-variants as W
 use Rattle.reader.specs.declared.statement.Point.{Point}
 use Rattle.reader.specs.declared.statement.Point.the-variants as P
-use Rattle.reader.specs.Tokens.{Tok, Ahead, Answer, ok, refused, then, end}
-use Rattle.reader.specs.Tokens.{take as taking}
-use Rattle.reader.specs.Grammar.{Item}
-use Rattle.reader.specs.Engine.{Rec, Frame, Draft, setX, setY, setCode, setFirst, items}
-use Rattle.reader.specs.Reading.{Mark, tok}
+use Rattle.grammar.specs.Tokens.{Tok, Ahead, Answer, ok, refused, then, end}
+use Rattle.grammar.specs.Tokens.{take as taking}
+use Rattle.grammar.specs.Grammar.{Item}
+use Rattle.grammar.specs.Engine.{Rec, Frame, Draft, setX, setY, setCode, setFirst, items}
+use Rattle.grammar.specs.Reading.{Mark, tok}
 
 -- the bytes of a token
 abbrev pub bytesOf : List ℕ → Token → List ℕ
@@ -43,6 +46,16 @@ complaint n t = refusal n (t .stop) (t .line)
 
 abbrev pub refuse : {A : Type 0} → Refusal → Answer ℕ Mark A
 refuse r = refused (r .number) (record { place = r .place; line = r .line })
+
+-- the end of the text as a token, with its line
+abbrev pub endOf : List ℕ → ℕ → Token
+endOf s n = record { kind = end; start = length s; stop = length s; line = n }
+
+-- the token that the lexer's answer has the code hold, or refusal 3
+abbrev pub heldNext : List ℕ → Lexed → Taken
+heldNext s (Found t) = T.Next t
+heldNext s (End n) = T.Next (endOf s n)
+heldNext s (Bad i n) = T.Refused (refusal noToken i n)
 
 -- the takers' answers; h is the token that was taken
 abbrev pub asTaken : List ℕ → Token → Taken → Answer ℕ Mark (Tok ℕ Mark)

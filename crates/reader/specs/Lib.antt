@@ -1,12 +1,6 @@
-pub mod Tokens
-pub mod Grammar
-pub mod Table
-pub mod Engine
-pub mod Turns
-pub mod Reading
-pub mod Examples
+pub mod Answered
 pub mod Code
 pub mod Open
 pub mod Stepped
-pub mod Standing
-pub mod Listed
+pub mod Passed
+pub mod Samples

@@ -9,11 +9,11 @@ use Rattle.lexer.specs.declared.Token.{Token}
 use Rattle.reader.specs.declared.state.Block.{Block}
 use Rattle.reader.specs.declared.state.Block.the-variants as B
 use Rattle.reader.specs.declared.state.State.{State}
-use Rattle.reader.specs.Grammar as G
-use Rattle.reader.specs.Engine.{Frame}
-use Rattle.reader.specs.Turns as T
-use Rattle.reader.specs.Turns.{opened}
-use Rattle.reader.specs.Reading.{libraryFrame}
+use Rattle.grammar.specs.Grammar as G
+use Rattle.grammar.specs.Engine.{Frame}
+use Rattle.grammar.specs.Turns as T
+use Rattle.grammar.specs.Turns.{opened}
+use Rattle.grammar.specs.Reading.{libraryFrame}
 
 -- the block of the grammar that the code's block is
 abbrev pub blockOf : Block → G.Block

@@ -16,14 +16,14 @@ use Rattle.reader.specs.declared.take.Taken.{Taken}
 use Rattle.reader.specs.declared.take.Taken.the-variants as N
 use Rattle.reader.specs.declared.turn.Turn.{Turn}
 use Rattle.reader.specs.declared.turn.Turn.the-variants as U
-use Rattle.reader.specs.Tokens.{Answer, ok}
-use Rattle.reader.specs.Grammar as G
-use Rattle.reader.specs.Grammar.{Item, Move, stay, enter, named, version}
-use Rattle.reader.specs.Table.{body}
-use Rattle.reader.specs.Engine.{Rec, Frame, Draft, blank, setName, nameOf}
-use Rattle.reader.specs.Turns as T
-use Rattle.reader.specs.Turns.{labelOf, given, ended, shift, leave, become, state}
-use Rattle.reader.specs.Reading.{Mark, filed}
+use Rattle.grammar.specs.Tokens.{Answer, ok}
+use Rattle.grammar.specs.Grammar as G
+use Rattle.grammar.specs.Grammar.{Item, Move, stay, enter, named, version}
+use Rattle.grammar.specs.Table.{body}
+use Rattle.grammar.specs.Engine.{Rec, Frame, Draft, blank, setName, nameOf}
+use Rattle.grammar.specs.Turns as T
+use Rattle.grammar.specs.Turns.{labelOf, given, ended, shift, leave, become, state}
+use Rattle.grammar.specs.Reading.{Mark, filed}
 use Rattle.reader.specs.Code.{tokOf, aheadOf, refuse, afterWord, complaint}
 use Rattle.reader.specs.Open.{nameIn, frameOf, outerFrames, stateOf}
 

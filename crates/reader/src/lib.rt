@@ -1,11 +1,12 @@
-// The reader of LEF text: the records that a text gives, or the refusal. What stands here is the definition, with what is
-// proved of it, and the step of each block; the turns above them are not there yet.
+// The reader of LEF text: the records that a text gives, or the refusal.
 mod geometry;
 mod layer;
 mod library;
 mod macros;
+mod opening;
 mod pin;
 mod port;
+pub mod reading;
 mod shared;
 mod site;
 mod state;

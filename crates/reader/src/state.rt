@@ -1,12 +1,10 @@
 // The state between two turns: the token held, the version in force, and what is kept of the open blocks.
 ghost use mathlib.Core.Path.{_≡_};
 ghost use mathlib.Core.List.{List};
-ghost use Prim.Native.Nat.{ℕ, _-_};
-ghost use Rattle.reader.specs.Reading.{start};
+ghost use Prim.Native.Nat.{ℕ};
+ghost use Rattle.grammar.specs.Reading.{start};
 ghost use Rattle.reader.specs.Open.{aroundLayer, around, firstOf, stateOf, movedTo};
 use lexer::Token;
-use record::Record;
-use record::kind;
 
 pub enum Block {
     Library,
@@ -41,7 +39,7 @@ pub struct State {
     pub pin: usize,
     pub pin_title: usize,
     pub pin_len: usize,
-    // Where the PORT or OBS starts, and which of them it is.
+    // Where the PORT or OBS starts, and whether the LAYER in it is a port's.
     pub inner: usize,
     pub in_port: bool,
     // Where the LAYER starts.
@@ -129,6 +127,13 @@ impl State {
             Block::Polygon => Block::Layer,
             Block::Path => Block::Layer,
         }
+    }
+
+    // The state as the innermost block ends.
+    pub fn left(self, next: Token) -> Self
+        ensures { λ r. ⌜ r ≡ movedTo (firstOf (around self (self .block))) next self ⌝ }
+    {
+        self.moved(self.outer_block(), next)
     }
 
     // The block that has the layer.

@@ -3,9 +3,9 @@
 ghost use mathlib.Core.Path.{_≡_};
 ghost use mathlib.Core.List.{[], _∷_};
 ghost use Prim.Native.Nat.{ℕ};
-ghost use Rattle.reader.specs.Grammar.{x, y, key, keyword, semi, value, among};
-ghost use Rattle.reader.specs.Engine.{Frame, Draft, items, member};
-ghost use Rattle.reader.specs.Table.{versions, microns};
+ghost use Rattle.grammar.specs.Grammar.{x, y, key, keyword, semi, value, among};
+ghost use Rattle.grammar.specs.Engine.{Frame, Draft, items, member};
+ghost use Rattle.grammar.specs.Table.{versions, microns};
 ghost use Rattle.reader.specs.Code.{aheadOf, afterWord, asX, asXY, asCode, whyPoint, whyNumber, whyWord};
 use crate::take;
 use crate::take::Number;

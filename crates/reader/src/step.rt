@@ -3,7 +3,7 @@ ghost use mathlib.Core.Path.{_≡_};
 ghost use mathlib.Core.List.{List};
 ghost use Prim.Native.Nat.{ℕ};
 ghost use Rattle.lexer.specs.declared.Token.{Token};
-ghost use Rattle.reader.specs.Turns.{ended};
+ghost use Rattle.grammar.specs.Turns.{ended};
 ghost use Rattle.reader.specs.Code.{asTaken};
 ghost use Rattle.reader.specs.Stepped.{asStep, filedStep};
 use crate::take::Taken;

@@ -3,10 +3,11 @@
 ghost use mathlib.Core.Path.{_≡_};
 ghost use Prim.Native.Nat.{_-_};
 ghost use lib.ListN.{take, drop};
-ghost use Rattle.reader.specs.Tokens.{expect};
-ghost use Rattle.reader.specs.Tokens.{take as taking};
-ghost use Rattle.reader.specs.Engine.{get-name, get-key, expect-key, expect-keyword, expect-ident, parse-number, parse-enum};
-ghost use Rattle.reader.specs.Code.{complaint, aheadOf, asTaken, asNumber, asWord, whyTaken};
+ghost use Rattle.lexer.specs.Lex.{lexFrom};
+ghost use Rattle.grammar.specs.Tokens.{expect};
+ghost use Rattle.grammar.specs.Tokens.{take as taking};
+ghost use Rattle.grammar.specs.Engine.{get-name, get-key, expect-key, expect-keyword, expect-ident, parse-number, parse-enum};
+ghost use Rattle.reader.specs.Code.{complaint, aheadOf, heldNext, asTaken, asNumber, asWord, whyTaken};
 ghost use Rattle.reader.specs.Open.{nameIn};
 ghost use Rattle.word.specs.Words.{same};
 ghost use Rattle.word.specs.Codes.{codeOf};
@@ -52,15 +53,22 @@ pub fn next_token(text: &[u8], held: Token) -> Taken
     if kind == 0 {
         return Taken::Refused(complain(4, held));
     }
-    match lexer::lex(text, held.stop, held.line) {
+    token_from(text, held.stop, held.line)
+}
+
+// The first token from a place of the text on, which is on the line given.
+pub fn token_from(text: &[u8], place: usize, line: usize) -> Taken
+    ensures { λ r. ⌜ r ≡ heldNext (now (text .entry)) (lexFrom (now (text .entry)) place line) ⌝ }
+{
+    match lexer::lex(text, place, line) {
         Lexed::Found(t) => Taken::Next(t),
-        Lexed::End(line) => Taken::Next(Token {
+        Lexed::End(last) => Taken::Next(Token {
             kind: 0,
             start: text.len(),
             stop: text.len(),
-            line,
+            line: last,
         }),
-        Lexed::Bad(place, line) => Taken::Refused(Refusal::no_token(place, line)),
+        Lexed::Bad(bad, on) => Taken::Refused(Refusal::no_token(bad, on)),
     }
 }
 

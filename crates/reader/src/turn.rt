@@ -1,8 +1,13 @@
 // A turn: one step of the innermost block, and the state that follows.
 ghost use mathlib.Core.Path.{_≡_};
-ghost use Rattle.reader.specs.Table.{body};
-ghost use Rattle.reader.specs.Open.{blockOf, frameOf};
-ghost use Rattle.reader.specs.Stepped.{asStep, stepIn};
+ghost use mathlib.Core.List.{List};
+ghost use Prim.Native.Nat.{ℕ};
+ghost use Rattle.reader.specs.declared.state.Block.the-variants as B;
+ghost use Rattle.grammar.specs.Table.{body};
+ghost use Rattle.grammar.specs.Turns.{leave};
+ghost use Rattle.reader.specs.Code.{aheadOf};
+ghost use Rattle.reader.specs.Open.{blockOf, frameOf, outerFrames, framesOf};
+ghost use Rattle.reader.specs.Stepped.{asStep, stepIn, asTurn, turnIn};
 use crate::geometry;
 use crate::layer;
 use crate::library;
@@ -14,6 +19,7 @@ use crate::state::Block;
 use crate::state::State;
 use crate::step::Step;
 use crate::units;
+use lexer::Token;
 use record::Record;
 use refusal::Refusal;
 
@@ -23,6 +29,47 @@ pub enum Turn {
     Moved(State),
     Done,
     Refused(Refusal),
+}
+
+// One turn. Where a layer has ended before the word held, the turn is that of the block around it.
+pub fn one_turn(text: &[u8], st: State) -> Turn
+    ensures { λ r. ⌜ asTurn (now (text .entry)) r ≡ turnIn (now (text .entry)) (st .version) (framesOf (now (text .entry)) st) (st .held) ⌝ }
+{
+    let step = one_step(text, st);
+    match step {
+        Step::Gives(r, next) => Turn::Emit(r, st.after(r, next)),
+        Step::Ends(next) => ended(st, next),
+        Step::Goes(next) => Turn::Moved(st.moved(Block::Layer, next)),
+        Step::Back => around(text, st),
+        Step::Refused(r) => Turn::Refused(r),
+    }
+}
+
+// The turn of the port or the obstructions around a layer that has ended. Neither goes on as another block, or back.
+fn around(text: &[u8], st: State) -> Turn
+    ensures { λ r. ⌜ (st .block ≡ B.Layer → asTurn (now (text .entry)) r ≡ turnIn (now (text .entry)) (st .version) (outerFrames (now (text .entry)) st) (st .held)) ⌝ }
+{
+    let held = st.held;
+    let outer = st.left(held);
+    let step = one_step(text, outer);
+    match step {
+        Step::Gives(r, next) => Turn::Emit(r, outer.after(r, next)),
+        Step::Ends(next) => ended(outer, next),
+        Step::Goes(_) => Turn::Done,
+        Step::Back => Turn::Done,
+        Step::Refused(r) => Turn::Refused(r),
+    }
+}
+
+// The turn in which the innermost block ends, and with the library the reading.
+fn ended(st: State, next: Token) -> Turn
+    ensures { λ r. ⌜ ((s : List ℕ) → asTurn s r ≡ leave (st .version) (outerFrames s st) (aheadOf s next)) ⌝ }
+{
+    let block = st.block;
+    match block {
+        Block::Library => Turn::Done,
+        _ => Turn::Moved(st.left(next)),
+    }
 }
 
 // What the innermost block makes of what is ahead.

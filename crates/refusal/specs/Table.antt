@@ -2,6 +2,10 @@
 use Prim.Native.Nat.{ℕ}
 use Rattle.refusal.specs.declared.Refusal.{Refusal}
 
+-- done; place: the count of records or bytes
+abbrev pub done : ℕ
+done = 0
+
 -- text over 16,777,216 bytes; place 0
 abbrev pub tooLong : ℕ
 tooLong = 1
@@ -13,6 +17,10 @@ notAscii = 2
 -- a byte starts no token; place: that byte
 abbrev pub noToken : ℕ
 noToken = 3
+
+-- the record buffer is too small; place: the records needed
+abbrev pub recordRoom : ℕ
+recordRoom = 11
 
 abbrev pub refused : ℕ → ℕ → ℕ → Refusal
 refused number place line = record { number = number; place = place; line = line }

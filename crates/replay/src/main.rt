@@ -4,18 +4,21 @@
 //   n TEXT           a numeral as its sign and millionths, or `not`; then the shortest numeral of that value
 //   w TEXT           the number of a key word, `value` for another word that is known, or `none`
 //   c KIND TEXT      the code of a value of a kind of record (one byte): a word, or two with a space between them
+//   l TEXT           the reading of a text: its records with `;` between them, each as the listing has it; or `refusal`, number, place, line
+//   p NUMBER TEXT    a run of the listing, after its number (one byte)
 //   r FILE           the records of a record file: the fields of each, then the bytes of a buffer of two records after it was put second
 use file::Found;
 use lexer::Answer;
 use lexer::Lexed;
 use numeral::Value;
 use numeral::Written;
+use reader::reading;
 use record::Record;
 use vectors::hex;
 use vectors::say;
 
 fn main() {
-    let mut input = io::large_buffer();
+    let mut input = vectors::input();
     let n = io::read_full(0, &mut input);
     lines(&input[..n]);
 }
@@ -30,7 +33,7 @@ fn lines(input: &[u8]) {
 }
 
 fn line(part: &[u8]) {
-    let mut text = [0u8; 256];
+    let mut text = [0u8; 8192];
     if part.len() == 0 {
         return;
     }
@@ -42,6 +45,8 @@ fn line(part: &[u8]) {
         b'n' => value(&text[0..n]),
         b'w' => word(&text[0..n]),
         b'c' => code(&text[0..n]),
+        b'l' => reading(&text[0..n]),
+        b'p' => run(&text[0..n]),
         b'r' => records(&text[0..n]),
         _ => say::text(b"?"),
     }
@@ -147,6 +152,21 @@ fn code(text: &[u8]) {
     } else {
         say::number(word::codes::code_of(kind, first, 0) as u64);
     }
+}
+
+fn reading(text: &[u8]) {
+    let mut records = [0u8; 147456];
+    listing::answer(reading::read(text, &mut records), &records, b";");
+}
+
+fn run(text: &[u8]) {
+    if text.len() == 0 {
+        return;
+    }
+    say::text(b"run ");
+    say::number(wide(text[0]) as u64);
+    say::newline();
+    listing::list(&text[1..]);
 }
 
 fn records(file: &[u8]) {

@@ -1,9 +1,17 @@
 // What the programs that replay vectors share: lines, bytes in hexadecimal, and printing.
+ghost use mathlib.Core.Path.{_≡_};
 ghost use Prim.Native.Nat.{_≤_};
 ghost use lib.ListN.{length};
 
 pub mod hex;
 pub mod say;
+
+// A million zeros, for the lines of a program's input.
+pub fn input() -> [u8; 1048576]
+    ensures { λ r. ⌜ 1048576 ≡ length r ⌝ }
+{
+    [0; 1048576]
+}
 
 // The place of the next such byte from a place on, or the end.
 pub fn next_of(byte: u8, input: &[u8], at: usize) -> usize

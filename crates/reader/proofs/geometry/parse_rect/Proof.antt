@@ -1,8 +1,8 @@
 -- `reader::geometry::parse_rect` meets its contract: a point while one lacks, and then the `;`.
 use mathlib.Core.Path.{ap, sym, _∙_}
 use borrow.Author.Needs.{needs}
-use Rattle.reader.specs.Engine.{blank, empty}
-use Rattle.reader.specs.Turns.{ended, step}
+use Rattle.grammar.specs.Engine.{blank, empty}
+use Rattle.grammar.specs.Turns.{ended, step}
 use Rattle.reader.specs.Code.{aheadOf}
 use Rattle.reader.specs.Stepped.{filedStep}
 use Rattle.reader.proofs.Items.{semi-ends, some-lack, none-lack}

@@ -1,7 +1,7 @@
 -- `reader::geometry::point` meets its contract: the point is the answer of `parse_point`.
 use borrow.Author.Needs.{needs}
 use Rattle.record.specs.Kinds.{POINT}
-use Rattle.reader.specs.Engine.{blank}
+use Rattle.grammar.specs.Engine.{blank}
 use Rattle.reader.specs.Code.{aheadOf}
 use Rattle.reader.specs.Stepped.{moveOf}
 use Rattle.reader.proofs.geometry.point.Statement.{statement}

@@ -4,9 +4,9 @@ use mathlib.Core.List.{[], _∷_}
 use native.Mathlib.Nat.{add-zero}
 use borrow.Author.Needs.{needs}
 use Rattle.record.specs.Kinds.{VIA}
-use Rattle.reader.specs.Grammar.{x, y, name, semi}
-use Rattle.reader.specs.Engine.{blank}
-use Rattle.reader.specs.Reading.{Mark}
+use Rattle.grammar.specs.Grammar.{x, y, name, semi}
+use Rattle.grammar.specs.Engine.{blank}
+use Rattle.grammar.specs.Reading.{Mark}
 use Rattle.reader.specs.Code.{aheadOf}
 use Rattle.reader.specs.Stepped.{moveOf}
 use Rattle.reader.proofs.Items.{two}

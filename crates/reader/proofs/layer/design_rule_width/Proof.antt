@@ -1,6 +1,6 @@
 -- `reader::layer::design_rule_width` meets its contract: the number is the answer of `parse_number`.
 use borrow.Author.Needs.{needs}
-use Rattle.reader.specs.Engine.{item, items}
+use Rattle.grammar.specs.Engine.{item, items}
 use Rattle.reader.specs.Stepped.{moveOf}
 use Rattle.reader.proofs.layer.design_rule_width.Statement.{statement}
 use Rattle.reader.proofs.layer.design_rule_width.Tie as tie

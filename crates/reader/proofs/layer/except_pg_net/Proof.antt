@@ -1,6 +1,6 @@
 -- `reader::layer::except_pg_net` meets its contract: the record has its code and nothing else.
 use borrow.Author.Needs.{needs}
-use Rattle.reader.specs.Engine.{item, items}
+use Rattle.grammar.specs.Engine.{item, items}
 use Rattle.reader.specs.Stepped.{moveOf}
 use Rattle.reader.proofs.layer.except_pg_net.Statement.{statement}
 use Rattle.reader.proofs.layer.except_pg_net.Tie as tie

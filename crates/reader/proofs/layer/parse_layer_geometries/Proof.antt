@@ -1,9 +1,9 @@
 -- `reader::layer::parse_layer_geometries` meets its contract: each arm is the row of its word.
 use mathlib.Core.Path.{_∙_}
 use borrow.Author.Needs.{needs}
-use Rattle.reader.specs.Grammar.{Layer}
-use Rattle.reader.specs.Table.{body}
-use Rattle.reader.specs.Turns.{perform}
+use Rattle.grammar.specs.Grammar.{Layer}
+use Rattle.grammar.specs.Table.{body}
+use Rattle.grammar.specs.Turns.{perform}
 use Rattle.reader.proofs.Acts.{rowsOf, layer-words, looked, unlisted, unseen}
 use Rattle.reader.proofs.layer.parse_layer_geometries.Statement.{statement}
 use Rattle.reader.proofs.layer.parse_layer_geometries.Tie as tie

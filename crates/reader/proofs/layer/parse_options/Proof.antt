@@ -3,9 +3,9 @@ use mathlib.Core.Path.{sym, ap, _∙_}
 use borrow.Author.Needs.{needs}
 use borrow.Author.Tests.{eq-eqb, ne-eqb}
 use Rattle.word.specs.Words.{wordOf}
-use Rattle.reader.specs.Grammar.{Options}
-use Rattle.reader.specs.Table.{body}
-use Rattle.reader.specs.Turns.{perform, step}
+use Rattle.grammar.specs.Grammar.{Options}
+use Rattle.grammar.specs.Table.{body}
+use Rattle.grammar.specs.Turns.{perform, step}
 use Rattle.reader.proofs.Acts.{rowsOf, options-words, judged-as, judged-none}
 use Rattle.reader.proofs.layer.parse_options.Statement.{statement}
 use Rattle.reader.proofs.layer.parse_options.Tie as tie

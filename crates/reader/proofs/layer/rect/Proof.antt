@@ -1,7 +1,7 @@
 -- `reader::layer::rect` meets its contract: the word is taken, and no name follows.
 use borrow.Author.Needs.{needs}
 use borrow.Author.Tests.{eq-eqb, ne-eqb}
-use Rattle.reader.specs.Engine.{item, items}
+use Rattle.grammar.specs.Engine.{item, items}
 use Rattle.reader.specs.Stepped.{moveOf}
 use Rattle.reader.proofs.layer.rect.Statement.{statement}
 use Rattle.reader.proofs.layer.rect.Tie as tie

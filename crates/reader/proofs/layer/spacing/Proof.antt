@@ -1,6 +1,6 @@
 -- `reader::layer::spacing` meets its contract: the number is the answer of `parse_number`.
 use borrow.Author.Needs.{needs}
-use Rattle.reader.specs.Engine.{item, items}
+use Rattle.grammar.specs.Engine.{item, items}
 use Rattle.reader.specs.Stepped.{moveOf}
 use Rattle.reader.proofs.layer.spacing.Statement.{statement}
 use Rattle.reader.proofs.layer.spacing.Tie as tie

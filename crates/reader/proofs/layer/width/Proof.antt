@@ -1,7 +1,7 @@
 -- `reader::layer::width` meets its contract: the number is the answer of `parse_width`.
 use borrow.Author.Needs.{needs}
 use Rattle.record.specs.Kinds.{WIDTH}
-use Rattle.reader.specs.Engine.{blank}
+use Rattle.grammar.specs.Engine.{blank}
 use Rattle.reader.specs.Code.{aheadOf}
 use Rattle.reader.specs.Stepped.{moveOf}
 use Rattle.reader.proofs.layer.width.Statement.{statement}

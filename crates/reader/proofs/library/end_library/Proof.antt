@@ -1,6 +1,6 @@
 -- `reader::library::end_library` meets its contract: the answers of the takers in turn.
 use borrow.Author.Needs.{needs}
-use Rattle.reader.specs.Engine.{item, items}
+use Rattle.grammar.specs.Engine.{item, items}
 use Rattle.reader.proofs.Items.{library-word}
 use Rattle.reader.proofs.library.end_library.Statement.{statement}
 use Rattle.reader.proofs.library.end_library.Tie as tie

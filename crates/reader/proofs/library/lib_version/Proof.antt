@@ -1,7 +1,7 @@
 -- `reader::library::lib_version` meets its contract: the number is the answer of `parse_version`.
 use borrow.Author.Needs.{needs}
 use Rattle.record.specs.Kinds.{VERSION}
-use Rattle.reader.specs.Engine.{blank}
+use Rattle.grammar.specs.Engine.{blank}
 use Rattle.reader.specs.Code.{aheadOf}
 use Rattle.reader.specs.Stepped.{moveOf}
 use Rattle.reader.proofs.library.lib_version.Statement.{statement}

@@ -2,7 +2,7 @@
 use borrow.Author.Needs.{needs}
 use Rattle.record.specs.Kinds.{NOWIREEXTENSIONATPIN}
 use mathlib.Core.Path.{refl}
-use Rattle.reader.specs.Engine.{blank}
+use Rattle.grammar.specs.Engine.{blank}
 use Rattle.reader.specs.Code.{aheadOf}
 use Rattle.reader.specs.Stepped.{moveOf}
 use Rattle.reader.proofs.library.no_wire_extension_at_pin.Statement.{statement}

@@ -5,7 +5,7 @@ use native.Mathlib.Omega.{arith}
 use borrow.Author.Needs.{needs}
 use borrow.Author.Tests.{eq-eqb, ne-eqb}
 use lib.ListN.{length, take, drop}
-use Rattle.reader.specs.Engine.{item, items}
+use Rattle.grammar.specs.Engine.{item, items}
 use Rattle.reader.specs.Stepped.{moveOf}
 use Rattle.reader.proofs.Ahead.{inside-long, span-within}
 use Rattle.reader.proofs.library.parse_bus_bit_chars.Statement.{statement}

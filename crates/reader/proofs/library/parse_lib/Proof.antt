@@ -1,9 +1,9 @@
 -- `reader::library::parse_lib` meets its contract: each arm is the row of its word.
 use mathlib.Core.Path.{_∙_}
 use borrow.Author.Needs.{needs}
-use Rattle.reader.specs.Grammar.{Library}
-use Rattle.reader.specs.Table.{body}
-use Rattle.reader.specs.Turns.{perform}
+use Rattle.grammar.specs.Grammar.{Library}
+use Rattle.grammar.specs.Table.{body}
+use Rattle.grammar.specs.Turns.{perform}
 use Rattle.reader.proofs.Acts.{rowsOf, library-words, looked, unlisted, unseen}
 use Rattle.reader.proofs.library.parse_lib.Statement.{statement}
 use Rattle.reader.proofs.library.parse_lib.Tie as tie

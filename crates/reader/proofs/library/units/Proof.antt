@@ -1,6 +1,6 @@
 -- `reader::library::units` meets its contract: the word is taken.
 use borrow.Author.Needs.{needs}
-use Rattle.reader.specs.Engine.{item, items}
+use Rattle.grammar.specs.Engine.{item, items}
 use Rattle.reader.specs.Stepped.{moveOf}
 use Rattle.reader.proofs.library.units.Statement.{statement}
 use Rattle.reader.proofs.library.units.Tie as tie

@@ -5,9 +5,9 @@ use native.Mathlib.Nat.{add-zero}
 use borrow.Author.Needs.{needs}
 use borrow.Author.Tests.{eq-eqb, ne-eqb}
 use Rattle.record.specs.Kinds.{FOREIGN, WITH-POINT}
-use Rattle.reader.specs.Grammar.{x, y, semi, code, noName}
-use Rattle.reader.specs.Engine.{blank, setName, nameOf}
-use Rattle.reader.specs.Reading.{Mark}
+use Rattle.grammar.specs.Grammar.{x, y, semi, code, noName}
+use Rattle.grammar.specs.Engine.{blank, setName, nameOf}
+use Rattle.grammar.specs.Reading.{Mark}
 use Rattle.reader.specs.Code.{tokOf, aheadOf}
 use Rattle.reader.specs.Stepped.{moveOf}
 use Rattle.reader.proofs.Items.{two, coding, past-name, stop-name, last-semi}

@@ -1,6 +1,6 @@
 -- `reader::macros::obs` meets its contract: the word is taken.
 use borrow.Author.Needs.{needs}
-use Rattle.reader.specs.Engine.{item, items}
+use Rattle.grammar.specs.Engine.{item, items}
 use Rattle.reader.specs.Stepped.{moveOf}
 use Rattle.reader.proofs.macros.obs.Statement.{statement}
 use Rattle.reader.proofs.macros.obs.Tie as tie

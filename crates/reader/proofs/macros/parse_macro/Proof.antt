@@ -1,9 +1,9 @@
 -- `reader::macros::parse_macro` meets its contract: each arm is the row of its word.
 use mathlib.Core.Path.{_∙_}
 use borrow.Author.Needs.{needs}
-use Rattle.reader.specs.Grammar.{Macro}
-use Rattle.reader.specs.Table.{body}
-use Rattle.reader.specs.Turns.{perform}
+use Rattle.grammar.specs.Grammar.{Macro}
+use Rattle.grammar.specs.Table.{body}
+use Rattle.grammar.specs.Turns.{perform}
 use Rattle.reader.proofs.Acts.{rowsOf, macro-words, looked, unlisted, unseen}
 use Rattle.reader.proofs.macros.parse_macro.Statement.{statement}
 use Rattle.reader.proofs.macros.parse_macro.Tie as tie

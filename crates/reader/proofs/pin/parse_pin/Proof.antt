@@ -1,9 +1,9 @@
 -- `reader::pin::parse_pin` meets its contract: each arm is the row of its word.
 use mathlib.Core.Path.{_∙_}
 use borrow.Author.Needs.{needs}
-use Rattle.reader.specs.Grammar.{Pin}
-use Rattle.reader.specs.Table.{body}
-use Rattle.reader.specs.Turns.{perform}
+use Rattle.grammar.specs.Grammar.{Pin}
+use Rattle.grammar.specs.Table.{body}
+use Rattle.grammar.specs.Turns.{perform}
 use Rattle.reader.proofs.Acts.{rowsOf, pin-words, looked, unlisted, unseen}
 use Rattle.reader.proofs.pin.parse_pin.Statement.{statement}
 use Rattle.reader.proofs.pin.parse_pin.Tie as tie

@@ -1,6 +1,6 @@
 -- `reader::pin::port` meets its contract: the word is taken.
 use borrow.Author.Needs.{needs}
-use Rattle.reader.specs.Engine.{item, items}
+use Rattle.grammar.specs.Engine.{item, items}
 use Rattle.reader.specs.Stepped.{moveOf}
 use Rattle.reader.proofs.pin.port.Statement.{statement}
 use Rattle.reader.proofs.pin.port.Tie as tie

@@ -1,9 +1,9 @@
 -- `reader::port::parse_obstructions` meets its contract: each arm is the row of its word.
 use mathlib.Core.Path.{_∙_}
 use borrow.Author.Needs.{needs}
-use Rattle.reader.specs.Grammar.{Obs}
-use Rattle.reader.specs.Table.{body}
-use Rattle.reader.specs.Turns.{perform}
+use Rattle.grammar.specs.Grammar.{Obs}
+use Rattle.grammar.specs.Table.{body}
+use Rattle.grammar.specs.Turns.{perform}
 use Rattle.reader.proofs.Acts.{rowsOf, obs-words, looked, unlisted, unseen}
 use Rattle.reader.proofs.port.parse_obstructions.Statement.{statement}
 use Rattle.reader.proofs.port.parse_obstructions.Tie as tie

@@ -1,9 +1,9 @@
 -- `reader::port::parse_port` meets its contract: each arm is the row of its word.
 use mathlib.Core.Path.{_∙_}
 use borrow.Author.Needs.{needs}
-use Rattle.reader.specs.Grammar.{Port}
-use Rattle.reader.specs.Table.{body}
-use Rattle.reader.specs.Turns.{perform}
+use Rattle.grammar.specs.Grammar.{Port}
+use Rattle.grammar.specs.Table.{body}
+use Rattle.grammar.specs.Turns.{perform}
 use Rattle.reader.proofs.Acts.{rowsOf, port-words, looked, unlisted, unseen}
 use Rattle.reader.proofs.port.parse_port.Statement.{statement}
 use Rattle.reader.proofs.port.parse_port.Tie as tie

@@ -1,6 +1,6 @@
--- `reader::shared::end_name` meets its contract: .
+-- `reader::shared::end_name` meets its contract: the answers of the takers in turn.
 use borrow.Author.Needs.{needs}
-use Rattle.reader.specs.Engine.{item, items}
+use Rattle.grammar.specs.Engine.{item, items}
 use Rattle.reader.specs.Stepped.{moveOf}
 use Rattle.reader.proofs.shared.end_name.Statement.{statement}
 use Rattle.reader.proofs.shared.end_name.Tie as tie

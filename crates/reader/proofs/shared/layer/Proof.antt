@@ -1,7 +1,7 @@
 -- `reader::shared::layer` meets its contract: the answers of the takers in turn.
 use borrow.Author.Needs.{needs}
 use native.Mathlib.Nat.{add-zero}
-use Rattle.reader.specs.Engine.{item, items}
+use Rattle.grammar.specs.Engine.{item, items}
 use Rattle.reader.specs.Stepped.{moveOf}
 use Rattle.reader.proofs.shared.layer.Statement.{statement}
 use Rattle.reader.proofs.shared.layer.Tie as tie

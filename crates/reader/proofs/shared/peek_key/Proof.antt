@@ -3,7 +3,7 @@ use mathlib.Core.Path.{sym, ap, _∙_}
 use borrow.Author.Needs.{needs}
 use borrow.Author.Tests.{eq-eqb, ne-eqb}
 use Rattle.word.specs.Words.{wordOf, isKey}
-use Rattle.reader.specs.Turns.{peek-key}
+use Rattle.grammar.specs.Turns.{peek-key}
 use Rattle.reader.proofs.shared.peek_key.Statement.{statement}
 use Rattle.reader.proofs.shared.peek_key.Tie as tie
 

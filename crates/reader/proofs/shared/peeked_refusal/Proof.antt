@@ -1,4 +1,4 @@
--- `reader::shared::peeked_refusal` meets its contract: .
+-- `reader::shared::peeked_refusal` meets its contract: each arm is a case of `whyPeeked`.
 use borrow.Author.Needs.{needs}
 use Rattle.reader.proofs.shared.peeked_refusal.Statement.{statement}
 use Rattle.reader.proofs.shared.peeked_refusal.Tie as tie

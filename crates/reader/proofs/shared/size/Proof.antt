@@ -1,7 +1,7 @@
 -- `reader::shared::size` meets its contract: the size is the answer of `parse_size`.
 use borrow.Author.Needs.{needs}
 use Rattle.record.specs.Kinds.{SIZE}
-use Rattle.reader.specs.Engine.{blank}
+use Rattle.grammar.specs.Engine.{blank}
 use Rattle.reader.specs.Code.{aheadOf}
 use Rattle.reader.specs.Stepped.{moveOf}
 use Rattle.reader.proofs.shared.size.Statement.{statement}

@@ -1,6 +1,6 @@
 -- `reader::site::end_site` meets its contract: the answers of the takers in turn, and what lacks.
 use borrow.Author.Needs.{needs}
-use Rattle.reader.specs.Engine.{item, items}
+use Rattle.grammar.specs.Engine.{item, items}
 use Rattle.reader.proofs.site.end_site.Statement.{statement}
 use Rattle.reader.proofs.site.end_site.Tie as tie
 

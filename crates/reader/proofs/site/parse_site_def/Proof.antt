@@ -1,10 +1,10 @@
 -- `reader::site::parse_site_def` meets its contract: each arm is the row of its word.
 use mathlib.Core.Path.{ap, sym, _∙_}
 use borrow.Author.Needs.{needs}
-use Rattle.reader.specs.Grammar.{Site}
-use Rattle.reader.specs.Table.{body}
-use Rattle.reader.specs.Engine.{empty}
-use Rattle.reader.specs.Turns.{perform}
+use Rattle.grammar.specs.Grammar.{Site}
+use Rattle.grammar.specs.Table.{body}
+use Rattle.grammar.specs.Engine.{empty}
+use Rattle.grammar.specs.Turns.{perform}
 use Rattle.reader.proofs.Items.{site-whole}
 use Rattle.reader.proofs.Acts.{rowsOf, site-words, looked, unlisted, unseen}
 use Rattle.reader.proofs.site.parse_site_def.Statement.{statement}

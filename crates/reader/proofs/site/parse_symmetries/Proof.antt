@@ -3,9 +3,9 @@ use mathlib.Core.Path.{ap, sym, _∙_}
 use mathlib.Core.List.{[], _∷_}
 use borrow.Author.Needs.{needs}
 use borrow.Author.Tests.{eq-eqb, ne-eqb}
-use Rattle.reader.specs.Grammar.{semi}
-use Rattle.reader.specs.Engine.{blank, empty, item, items}
-use Rattle.reader.specs.Turns.{ended, step}
+use Rattle.grammar.specs.Grammar.{semi}
+use Rattle.grammar.specs.Engine.{blank, empty, item, items}
+use Rattle.grammar.specs.Turns.{ended, step}
 use Rattle.reader.specs.Code.{aheadOf}
 use Rattle.reader.specs.Stepped.{moveOf, filedStep}
 use Rattle.reader.proofs.Items.{semi-ends, whole-is}

@@ -1,6 +1,6 @@
 -- `reader::statement::ended_number` meets its contract: the answers of the takers in turn.
 use borrow.Author.Needs.{needs}
-use Rattle.reader.specs.Engine.{item, items}
+use Rattle.grammar.specs.Engine.{item, items}
 use Rattle.reader.proofs.statement.ended_number.Statement.{statement}
 use Rattle.reader.proofs.statement.ended_number.Tie as tie
 

@@ -1,6 +1,6 @@
 -- `reader::statement::is_microns` meets its contract: the code compares with each of the numbers in turn.
 use mathlib.Core.Bool.{or-assoc, or-false}
-use Rattle.reader.specs.Engine.{member}
+use Rattle.grammar.specs.Engine.{member}
 use Rattle.reader.proofs.statement.is_microns.Statement.{statement}
 use Rattle.reader.proofs.statement.is_microns.Tie as tie
 

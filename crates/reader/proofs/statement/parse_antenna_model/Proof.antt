@@ -1,6 +1,6 @@
 -- `reader::statement::parse_antenna_model` meets its contract: the answers of the takers in turn.
 use borrow.Author.Needs.{needs}
-use Rattle.reader.specs.Engine.{item, items}
+use Rattle.grammar.specs.Engine.{item, items}
 use Rattle.reader.proofs.Items.{code-set}
 use Rattle.reader.proofs.statement.parse_antenna_model.Statement.{statement}
 use Rattle.reader.proofs.statement.parse_antenna_model.Tie as tie

@@ -2,10 +2,10 @@
 use borrow.Author.Needs.{needs}
 use mathlib.Core.Path.{refl}
 use mathlib.Core.List.{[], _∷_}
-use Rattle.reader.specs.Grammar.{x, semi, among}
-use Rattle.reader.specs.Engine.{item, items}
-use Rattle.reader.specs.Table.{microns}
-use Rattle.reader.specs.Reading.{Mark}
+use Rattle.grammar.specs.Grammar.{x, semi, among}
+use Rattle.grammar.specs.Engine.{item, items}
+use Rattle.grammar.specs.Table.{microns}
+use Rattle.grammar.specs.Reading.{Mark}
 use Rattle.reader.proofs.Items.{microns-word, two}
 use Rattle.reader.proofs.statement.parse_microns.Statement.{statement}
 use Rattle.reader.proofs.statement.parse_microns.Tie as tie

@@ -2,8 +2,8 @@
 use borrow.Author.Needs.{needs}
 use mathlib.Core.Path.{refl}
 use mathlib.Core.List.{[], _∷_}
-use Rattle.reader.specs.Grammar.{x, y, semi}
-use Rattle.reader.specs.Engine.{item, items}
+use Rattle.grammar.specs.Grammar.{x, y, semi}
+use Rattle.grammar.specs.Engine.{item, items}
 use Rattle.reader.proofs.Items.{after-two}
 use Rattle.reader.proofs.statement.parse_origin.Statement.{statement}
 use Rattle.reader.proofs.statement.parse_origin.Tie as tie

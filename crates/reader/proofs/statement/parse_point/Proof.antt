@@ -1,6 +1,6 @@
 -- `reader::statement::parse_point` meets its contract: each number is the answer of `parse_number`.
 use borrow.Author.Needs.{needs}
-use Rattle.reader.specs.Engine.{item, items}
+use Rattle.grammar.specs.Engine.{item, items}
 use Rattle.reader.proofs.statement.parse_point.Statement.{statement}
 use Rattle.reader.proofs.statement.parse_point.Tie as tie
 

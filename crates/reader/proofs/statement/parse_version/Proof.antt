@@ -2,9 +2,9 @@
 use borrow.Author.Needs.{needs}
 use mathlib.Core.Path.{refl}
 use mathlib.Core.List.{[], _∷_}
-use Rattle.reader.specs.Grammar.{x, semi, among}
-use Rattle.reader.specs.Engine.{item, items}
-use Rattle.reader.specs.Table.{versions}
+use Rattle.grammar.specs.Grammar.{x, semi, among}
+use Rattle.grammar.specs.Engine.{item, items}
+use Rattle.grammar.specs.Table.{versions}
 use Rattle.reader.proofs.Items.{after-two}
 use Rattle.reader.proofs.statement.parse_version.Statement.{statement}
 use Rattle.reader.proofs.statement.parse_version.Tie as tie

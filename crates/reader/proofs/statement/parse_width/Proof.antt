@@ -1,6 +1,6 @@
 -- `reader::statement::parse_width` meets its contract: the word is taken, and the rest is `ended_number`.
 use borrow.Author.Needs.{needs}
-use Rattle.reader.specs.Engine.{item, items}
+use Rattle.grammar.specs.Engine.{item, items}
 use Rattle.reader.proofs.statement.parse_width.Statement.{statement}
 use Rattle.reader.proofs.statement.parse_width.Tie as tie
 

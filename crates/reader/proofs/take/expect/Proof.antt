@@ -1,7 +1,7 @@
 -- `reader::take::expect` meets its contract: the answer of `next_token`, and the kind of the token taken.
 use borrow.Author.Needs.{needs}
 use borrow.Author.Tests.{eq-eqb, ne-eqb}
-use Rattle.reader.specs.Tokens.{expect}
+use Rattle.grammar.specs.Tokens.{expect}
 use Rattle.reader.proofs.take.expect.Statement.{statement}
 use Rattle.reader.proofs.take.expect.Tie as tie
 

@@ -1,6 +1,6 @@
 -- `reader::take::expect_ident` meets its contract: the answer of `get_name`, and the bytes of the two tokens, compared.
 use borrow.Author.Needs.{needs}
-use Rattle.reader.specs.Engine.{expect-ident}
+use Rattle.grammar.specs.Engine.{expect-ident}
 use Rattle.reader.proofs.take.expect_ident.Statement.{statement}
 use Rattle.reader.proofs.take.expect_ident.Tie as tie
 

@@ -1,7 +1,7 @@
 -- `reader::take::expect_key` meets its contract: the answer of `get_key`, compared.
 use borrow.Author.Needs.{needs}
 use borrow.Author.Tests.{eq-eqb, ne-eqb}
-use Rattle.reader.specs.Engine.{expect-key}
+use Rattle.grammar.specs.Engine.{expect-key}
 use Rattle.reader.proofs.take.expect_key.Statement.{statement}
 use Rattle.reader.proofs.take.expect_key.Tie as tie
 

@@ -3,7 +3,7 @@ use mathlib.Core.Path.{sym, ap, _∙_}
 use borrow.Author.Needs.{needs}
 use borrow.Author.Tests.{eq-eqb, ne-eqb}
 use Rattle.word.specs.Words.{wordOf}
-use Rattle.reader.specs.Engine.{expect-keyword}
+use Rattle.grammar.specs.Engine.{expect-keyword}
 use Rattle.reader.proofs.take.expect_keyword.Statement.{statement}
 use Rattle.reader.proofs.take.expect_keyword.Tie as tie
 

@@ -2,7 +2,7 @@
 use mathlib.Core.Path.{sym, ap, _∙_}
 use borrow.Author.Needs.{needs}
 use Rattle.word.specs.Words.{wordOf, isKey}
-use Rattle.reader.specs.Engine.{get-key}
+use Rattle.grammar.specs.Engine.{get-key}
 use Rattle.reader.proofs.take.get_key.Statement.{statement}
 use Rattle.reader.proofs.take.get_key.Tie as tie
 

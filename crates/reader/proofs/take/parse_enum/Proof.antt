@@ -4,7 +4,7 @@ use borrow.Author.Needs.{needs}
 use borrow.Author.Tests.{eq-eqb, ne-eqb}
 use Rattle.word.specs.Words.{wordOf}
 use Rattle.word.specs.Codes.{codeOf}
-use Rattle.reader.specs.Engine.{parse-enum}
+use Rattle.grammar.specs.Engine.{parse-enum}
 use Rattle.reader.proofs.take.parse_enum.Statement.{statement}
 use Rattle.reader.proofs.take.parse_enum.Tie as tie
 

@@ -1,6 +1,6 @@
 -- `reader::take::parse_number` meets its contract: the answer of `expect`, and what the token says as a numeral.
 use borrow.Author.Needs.{needs}
-use Rattle.reader.specs.Engine.{parse-number}
+use Rattle.grammar.specs.Engine.{parse-number}
 use Rattle.reader.proofs.take.parse_number.Statement.{statement}
 use Rattle.reader.proofs.take.parse_number.Tie as tie
 

@@ -1,6 +1,6 @@
 -- `reader::units::end_units` meets its contract: the word is the answer of `expect_keyword`.
 use borrow.Author.Needs.{needs}
-use Rattle.reader.specs.Engine.{item, items}
+use Rattle.grammar.specs.Engine.{item, items}
 use Rattle.reader.proofs.Items.{units-word}
 use Rattle.reader.proofs.units.end_units.Statement.{statement}
 use Rattle.reader.proofs.units.end_units.Tie as tie

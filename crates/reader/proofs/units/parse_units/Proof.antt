@@ -2,11 +2,11 @@
 use mathlib.Core.Path.{sym, ap, _∙_}
 use borrow.Author.Needs.{needs}
 use Rattle.word.specs.Words.{wordOf}
-use Rattle.reader.specs.Grammar.{Units}
-use Rattle.reader.specs.Table.{body}
-use Rattle.reader.specs.Engine.{blank}
+use Rattle.grammar.specs.Grammar.{Units}
+use Rattle.grammar.specs.Table.{body}
+use Rattle.grammar.specs.Engine.{blank}
 use Rattle.reader.specs.Code.{aheadOf}
-use Rattle.reader.specs.Turns.{perform, step}
+use Rattle.grammar.specs.Turns.{perform, step}
 use Rattle.reader.proofs.Acts.{rowsOf, units-words, judged-as, judged-none}
 use Rattle.reader.proofs.units.parse_units.Statement.{statement}
 use Rattle.reader.proofs.units.parse_units.Tie as tie

@@ -2,7 +2,7 @@
 use mathlib.Core.Bool.{or-assoc, or-false, or-self-left}
 use Rattle.word.specs.Words.{keys, values, words, raised, upper, same, firstWhere, wordOf}
 use Rattle.word.specs.Codes.{directions, valuesOf}
-use Rattle.reader.specs.Engine.{begins}
+use Rattle.grammar.specs.Engine.{begins}
 use Rattle.reader.proofs.words.begins_direction.Statement.{statement}
 use Rattle.reader.proofs.words.begins_direction.Tie as tie
 

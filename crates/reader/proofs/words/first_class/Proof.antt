@@ -4,7 +4,7 @@ use borrow.Author.Needs.{needs}
 use Rattle.record.specs.Kinds.{MACRO-CLASS}
 use Rattle.word.specs.Words.{wordOf}
 use Rattle.word.specs.Codes.{valuesOf}
-use Rattle.reader.specs.Engine.{begins, item, items}
+use Rattle.grammar.specs.Engine.{begins, item, items}
 use Rattle.reader.proofs.words.first_class.Statement.{statement}
 use Rattle.reader.proofs.words.first_class.Tie as tie
 

@@ -1,7 +1,7 @@
 -- `reader::words::first_direction` meets its contract: the answer of `get_key`, looked at by `begins_direction`.
 use mathlib.Core.Path.{sym, _∙_}
 use borrow.Author.Needs.{needs}
-use Rattle.reader.specs.Engine.{item, items}
+use Rattle.grammar.specs.Engine.{item, items}
 use Rattle.reader.proofs.words.first_direction.Statement.{statement}
 use Rattle.reader.proofs.words.first_direction.Tie as tie
 

@@ -2,7 +2,7 @@
 use mathlib.Core.Bool.{or-assoc, or-false, or-self, or-self-left, and-true, and-false}
 use Rattle.word.specs.Words.{keys, values, words, raised, upper, same, firstWhere, wordOf}
 use Rattle.word.specs.Codes.{macroClasses, directions, valuesOf}
-use Rattle.reader.specs.Engine.{goesOn}
+use Rattle.grammar.specs.Engine.{goesOn}
 use Rattle.reader.proofs.Second.{no-second}
 use Rattle.reader.proofs.words.goes_on.Statement.{statement}
 use Rattle.reader.proofs.words.goes_on.Tie as tie

@@ -1,6 +1,6 @@
 -- `reader::words::parse_pin_direction` meets its contract: the answers of the takers in turn.
 use borrow.Author.Needs.{needs}
-use Rattle.reader.specs.Engine.{item, items}
+use Rattle.grammar.specs.Engine.{item, items}
 use Rattle.reader.proofs.words.parse_pin_direction.Statement.{statement}
 use Rattle.reader.proofs.words.parse_pin_direction.Tie as tie
 

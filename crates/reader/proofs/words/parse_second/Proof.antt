@@ -2,7 +2,7 @@
 use mathlib.Core.Path.{sym, _∙_}
 use borrow.Author.Needs.{needs}
 use borrow.Author.Tests.{eq-eqb, ne-eqb}
-use Rattle.reader.specs.Engine.{parse-second}
+use Rattle.grammar.specs.Engine.{parse-second}
 use Rattle.reader.proofs.words.parse_second.Statement.{statement}
 use Rattle.reader.proofs.words.parse_second.Tie as tie
 

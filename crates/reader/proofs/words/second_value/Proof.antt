@@ -6,7 +6,7 @@ use borrow.Author.Needs.{needs}
 use borrow.Author.Tests.{eq-eqb, ne-eqb}
 use Rattle.word.specs.Words.{wordOf}
 use Rattle.word.specs.Codes.{codeOf}
-use Rattle.reader.specs.Engine.{parse-enum}
+use Rattle.grammar.specs.Engine.{parse-enum}
 use Rattle.reader.proofs.words.second_value.Statement.{statement}
 use Rattle.reader.proofs.words.second_value.Tie as tie
 

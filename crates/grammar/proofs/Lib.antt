@@ -1,0 +1,13 @@
+pub mod Blocks
+pub mod Answers
+pub mod Takes
+pub mod Kept
+pub mod Steps
+pub mod Turned
+pub mod Falls
+pub mod Rises
+pub mod Places
+pub mod Every
+pub mod Codes
+pub mod Listed
+pub mod Ranges

@@ -1,0 +1,9 @@
+pub mod Tokens
+pub mod Grammar
+pub mod Table
+pub mod Engine
+pub mod Turns
+pub mod Reading
+pub mod Examples
+pub mod Standing
+pub mod Listed

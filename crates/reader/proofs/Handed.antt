@@ -1,0 +1,148 @@
+-- What `read` hands out is right: the reading from the first token on is the text's, and records stored one by one lie one after the other.
+use Prim.Native.Nat.{ℕ, suc, _+_, _*_, _≤_, _<_}
+use mathlib.Core.Path.{_≡_, refl, sym, ap, _∙_}
+use mathlib.Core.List.{List, [], _∷_, _++_, map}
+use native.Mathlib.Omega.{arith}
+use borrow.Author.Tests.{le-leb, lt-leb, lt-ltb, ne-eqb}
+use lib.ListN.{length, set}
+use lib.Seq.{sets, length-sets}
+use Rattle.refusal.specs.declared.Refusal.{Refusal}
+use Rattle.refusal.specs.Table.{noToken, done, recordRoom}
+use Rattle.refusal.specs.Table.{refused as refusal}
+use Rattle.record.specs.declared.Record.{Record}
+use Rattle.record.specs.Bytes.{encoded}
+use Rattle.file.specs.File.{stored}
+use Rattle.record.proofs.Laws.{encoded-length}
+use Rattle.lexer.specs.declared.Token.{Token}
+use Rattle.lexer.specs.declared.Lexed.{Lexed}
+use Rattle.lexer.specs.declared.Lexed.the-variants.{Found, End, Bad}
+use Rattle.lexer.specs.declared.Screened.{Screened}
+use Rattle.lexer.specs.declared.Screened.the-variants.{Clear, Refused}
+use Rattle.lexer.specs.Lex.{from, rest, lexFrom}
+use Rattle.lexer.specs.Screen.{screened}
+use Rattle.lexer.proofs.Whole.{unrolls}
+use Rattle.lexer.proofs.Kinded.{kinded}
+use Rattle.reader.specs.declared.state.State.{State}
+use Rattle.reader.specs.declared.take.Taken.{Taken}
+use Rattle.reader.specs.declared.take.Taken.the-variants as T
+use Rattle.reader.specs.declared.reading.Counted.{Counted}
+use Rattle.reader.specs.declared.reading.Counted.the-variants as C
+use Rattle.grammar.specs.Reading.{tok, ahead, start, readAhead, Reading, records, refusal-of, told, reading}
+use Rattle.reader.specs.Code.{restOf, aheadOf, endOf, heldNext}
+use Rattle.reader.specs.Open.{stateOf}
+use Rattle.reader.specs.Answered.{encodedAll, room, answered, filled}
+use Rattle.reader.specs.Passed.{readFrom, countOf, storedAll}
+use Rattle.reader.proofs.Ahead.{end-bytes}
+use Rattle.grammar.proofs.Falls.{readOn}
+
+-- THE RECORDS IN THE FILE
+
+sets-append : (xs ys l : List ℕ) (p : ℕ) → sets l p (xs ++ ys) ≡ sets (sets l p xs) (p + length xs) ys
+sets-append [] ys l p = ap (λ q. sets l q ys) (omega arith)
+sets-append (x ∷ xs) ys l p = sets-append xs ys (set l p x) (suc p) ∙ ap (λ q. sets (sets (set l p x) (suc p) xs) q ys) (omega arith)
+
+pub laid-all : (rs : List Record) (n : ℕ) (file : List ℕ) → n + length rs ≤ room file → storedAll n rs file ≡ sets file (36 * n) (encodedAll rs)
+unfolding storedAll encodedAll stored
+laid-all [] n file h = refl
+laid-all (r ∷ rs) n file h =
+    let e : stored r n file ≡ sets file (36 * n) (encoded r) = rw (lt-ltb n (room file) (omega arith)) in
+    let l : length (sets file (36 * n) (encoded r)) ≡ length file = length-sets file (36 * n) (encoded r) in
+    let p : 36 * (n + 1) ≡ 36 * n + length (encoded r) = rw (encoded-length r) (omega arith) in
+    ap (storedAll (n + 1) rs) e
+    ∙ (laid-all rs (n + 1) (sets file (36 * n) (encoded r)) (rw l (omega arith))
+    ∙ (ap (λ q. sets (sets file (36 * n) (encoded r)) q (encodedAll rs)) p ∙ sym (sets-append (encoded r) (encodedAll rs) file (36 * n))))
+
+-- THE ANSWER
+
+-- what `read` answers for a reading, and the buffer as it leaves it
+abbrev pub Handed : List ℕ → Reading → Refusal → List ℕ → Type 0
+Handed file o r exit = (r ≡ answered (room file) o) × (exit ≡ filled file o)
+
+clash : (n : ℕ) (f : Refusal) → _≡_ {A = Counted} (C.Records n) (C.Refused f) → ⊥
+clash n f e = let z : _≡_ {A = ℕ} 0 1 = cc in omega arith
+
+same-count : (n m : ℕ) → _≡_ {A = Counted} (C.Records n) (C.Records m) → n ≡ m
+same-count n m e = cc
+
+same-refusal : (f g : Refusal) → _≡_ {A = Counted} (C.Refused f) (C.Refused g) → f ≡ g
+same-refusal f g e = cc
+
+module _ (file : List ℕ) where
+  pub by-refusal : {o : Reading} (f : Refusal) → o ≡ refusal-of f → Handed file o f file
+  by-refusal f e = (rw e, rw e)
+
+  count-refused : (o : Reading) (f : Refusal) → C.Refused f ≡ countOf o → Handed file o f file
+  count-refused (records rs) f e = absurd (clash (length rs) f (sym e))
+  count-refused (refusal-of g) f e = (same-refusal f g e, refl)
+
+  no-room : (o : Reading) (n : ℕ) → C.Records n ≡ countOf o → room file < n → Handed file o (refusal recordRoom n 0) file
+  no-room (records rs) n e h =
+      let z = same-count n (length rs) e in
+      let b = lt-leb (length rs) (room file) (omega arith) in
+      (rw (b, z), rw b)
+  no-room (refusal-of g) n e h = absurd (clash n g e)
+
+  enough : (o : Reading) (n : ℕ) (exit : List ℕ) → C.Records n ≡ countOf o → n ≤ room file → ((rs : List Record) → o ≡ records rs → exit ≡ storedAll 0 rs file)
+      → Handed file o (refusal done n 0) exit
+  enough (records rs) n exit e h f =
+      let z = same-count n (length rs) e in
+      let b = le-leb (length rs) (room file) (omega arith) in
+      (rw (b, z), rw b (f rs refl ∙ laid-all rs 0 file (omega arith)))
+  enough (refusal-of g) n exit e h f = absurd (clash n g e)
+
+  -- the same where r is what `pass` counted in the reading p
+  module _ {o p : Reading} (e : o ≡ p) (r : Counted) (c : r ≡ countOf p) where
+    pub by-count : (f : Refusal) → r ≡ C.Refused f → Handed file o f file
+    by-count f h = rw e (count-refused p f (sym h ∙ c))
+
+    pub by-room : (n : ℕ) → r ≡ C.Records n → room file < n → Handed file o (refusal recordRoom n 0) file
+    by-room n h k = rw e (no-room p n (sym h ∙ c) k)
+
+    pub by-filling : (n : ℕ) → r ≡ C.Records n → n ≤ room file → (exit : List ℕ) → ((rs : List Record) → p ≡ records rs → exit ≡ storedAll 0 rs file)
+        → Handed file o (refusal done n 0) exit
+    by-filling n h k exit f = rw e (enough p n exit (sym h ∙ c) k f)
+
+-- THE START
+
+module _ (s : List ℕ) where
+  -- what a text that passes the screen reads as
+  abbrev clear : Reading
+  clear = told (readAhead (ahead s (from s 0 1)))
+
+  pub screens : (r : Refusal) → Refused r ≡ screened s → reading s ≡ refusal-of r
+  unfolding reading
+  screens r e = rw (← e, reading)
+
+  cleared : Clear ≡ screened s → reading s ≡ clear
+  unfolding reading
+  cleared e = rw (← e, reading)
+
+  opening : (r : Lexed) → r ≡ lexFrom s 0 1 → clear ≡ told (readAhead (record { held = tok s r; rest = map (tok s) (rest s r) }))
+  opening r q = let z : from s 0 1 ≡ r ∷ rest s r = rw q (unrolls s 0 1) in rw z
+
+  found : (r : Lexed) → r ≡ lexFrom s 0 1 → (t : Token) → T.Next t ≡ heldNext s r → clear ≡ told (readOn start (aheadOf s t))
+  unfolding readAhead restOf
+  found (Found u) q t e =
+      let k : (1 ≤ u .kind) × (u .kind ≤ 4) = rw (← q) at (kinded s 0 1) in
+      let z : t ≡ u = cc in
+      rw z (opening (Found u) q ∙ rw (ne-eqb (u .kind) 5 (omega arith), ne-eqb (u .kind) 0 (omega arith)))
+  found (End n) q t e =
+      let z : t ≡ endOf s n = cc in
+      rw z (opening (End n) q ∙ rw (end-bytes s))
+  found (Bad i n) q t e = absurd (let z : _≡_ {A = ℕ} 0 1 = cc in let w : ⊥ = omega arith in w)
+
+  lost : (r : Lexed) → r ≡ lexFrom s 0 1 → (f : Refusal) → T.Refused f ≡ heldNext s r → clear ≡ refusal-of f
+  unfolding readAhead
+  lost (Found u) q f e = absurd (let z : _≡_ {A = ℕ} 0 1 = cc in let w : ⊥ = omega arith in w)
+  lost (End n) q f e = absurd (let z : _≡_ {A = ℕ} 0 1 = cc in let w : ⊥ = omega arith in w)
+  lost (Bad i n) q f e =
+      let z : f ≡ refusal noToken i n = cc in
+      rw z (opening (Bad i n) q)
+
+  -- a clear text is read from its first token on, or is refused for its first byte
+  module _ (x : Screened) (v : x ≡ screened s) (c : x ≡ Clear) (y : Taken) (q : y ≡ heldNext s (lexFrom s 0 1)) where
+    pub begins : (t : Token) → y ≡ T.Next t → (o : State) → (o .held ≡ t) × ((l : List ℕ) → stateOf l o ≡ start) → reading s ≡ readFrom s o
+    begins t e o h = cleared (sym c ∙ v) ∙ (found (lexFrom s 0 1) refl t (sym e ∙ q) ∙ rw (← h .0, ← h .1 s))
+
+    pub fails : (f : Refusal) → y ≡ T.Refused f → reading s ≡ refusal-of f
+    fails f e = cleared (sym c ∙ v) ∙ lost (lexFrom s 0 1) refl f (sym e ∙ q)

@@ -1,0 +1,15 @@
+-- `reader::state::State::after_units` meets its contract: the block starts where the record does.
+use borrow.Author.Needs.{needs}
+use Rattle.grammar.specs.Turns.{without}
+use Rattle.reader.specs.Stepped.{moveOf}
+use Rattle.reader.proofs.state.State.after_units.Statement.{statement}
+use Rattle.reader.proofs.state.State.after_units.Tie as tie
+
+pub after-units-spec : {M : Type 1} → statement M
+unfolding moveOf without
+after-units-spec =
+    tie.close
+    (tie.spec
+    (λ c κs. search needs)
+    (λ c κs. search needs)
+    (λ c. (rw (c .before .moved .ensures), λ s k b. simp (c .before .moved .ensures, c .at .ensures, k, b))))

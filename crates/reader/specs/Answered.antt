@@ -1,0 +1,32 @@
+-- WHAT `read` ANSWERS for a reading, and what then stands in the record buffer that it was lent.
+use Prim.Native.Nat.{ℕ, _/_}
+use mathlib.Core.Bool.{cond}
+use mathlib.Core.List.{List, [], _∷_, _++_}
+use lib.Dec.{leb}
+use lib.ListN.{length}
+use lib.Seq.{sets}
+use Rattle.refusal.specs.declared.Refusal.{Refusal}
+use Rattle.refusal.specs.Table.{refused, done, recordRoom}
+use Rattle.record.specs.declared.Record.{Record}
+use Rattle.record.specs.Bytes.{encoded}
+use Rattle.grammar.specs.Reading.{Reading, records, refusal-of}
+
+-- the bytes of records, one after the other
+unfoldable pub encodedAll : List Record → List ℕ
+encodedAll [] = []
+encodedAll (r ∷ rs) = encoded r ++ encodedAll rs
+
+-- the records that a buffer has room for; bytes too few for a record count for nothing
+abbrev pub room : List ℕ → ℕ
+room file = length file / 36
+
+-- The answer where there is room for n records: 0 with the count of the records, 11 with that count where they do not fit, or the
+-- reading's own refusal.
+abbrev pub answered : ℕ → Reading → Refusal
+answered n (records rs) = cond (leb (length rs) n) (refused done (length rs) 0) (refused recordRoom (length rs) 0)
+answered n (refusal-of r) = r
+
+-- The buffer: records that fit are laid over its front, and all of its other bytes are kept. It is as it was where there is a refusal.
+abbrev pub filled : List ℕ → Reading → List ℕ
+filled file (records rs) = cond (leb (length rs) (room file)) (sets file 0 (encodedAll rs)) file
+filled file (refusal-of r) = file
