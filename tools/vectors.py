@@ -3,7 +3,8 @@
 ORACLE is the program that tools/lef21/build makes, LIBRS the file src/lib.rs of lef21 0.2.0. No answer comes from this
 repository's code: tokens are the original lexer's, numerals are worked out in exact fractions and, where the crate is to be
 equal, compared with its rust_decimal; key words and value words are the original's; codes are typed here from the rules;
-records are packed by Python's struct. Run at the repository's root."""
+records are packed by Python's struct; runs of the listing are typed here from the rules' worked examples. Run at the
+repository's root."""
 import random, re, struct, subprocess, sys
 from fractions import Fraction
 
@@ -13,7 +14,7 @@ asked, wanted = [], []
 
 
 def ask(letter, data, answer):
-    assert len(data) <= 256
+    assert len(data) <= 8192
     asked.append(letter + data.hex())
     wanted.append(answer)
 
@@ -158,8 +159,45 @@ def one(r=None):
 for file in [b"", b"\1" * 35, one(), one() + b"\2" * 35, one() + one(), bytes(36), b"\xff" * 36] + [one() for _ in range(12)]:
     ask("r", file, answer(file))
 
+# ---- readings of whole texts: each line of tools/readings is a text in hexadecimal and the answer to it, which a program written from
+# the rules gave and the original confirmed (lef21/compare --texts asks it again)
+for line in open("tools/readings"):
+    hexed, answer = line.rstrip("\n").split(" ", 1)
+    ask("l", bytes.fromhex(hexed), answer)
+
+# ---- runs of the listing: the rules' worked examples, a byte that is no ASCII, SOURCE, and room for 1,820 records, filled and one over
+FULL = b"SITE s CLASS CORE ; SIZE 1 BY 1 ; SYMMETRY %s ; END s END LIBRARY"
+WORDS = "\n".join("11 1 %d 34 0 0 0 0" % (43 + 2 * i) for i in range(1816))
+runs = [
+    (b"", "refusal 4 0 1"),
+    (b"END LIBRARY", "0 records"),
+    (b"END LIBRARY @", "refusal 3 12 1"),
+    (b"END LIBRARY x @", "0 records"),
+    (b'END LIBRARY "a', "0 records"),
+    (b"END LIBRARY;", "refusal 5 12 1"),
+    (b"VERSION 5.8 ; END LIBRARY", "1 0 0 - 0 0 5800000 0\n1 records"),
+    (b"VERSION 5.9 ; END LIBRARY", "refusal 6 17 1"),
+    (b"VERSION - ;", "refusal 9 11 1"),
+    (b'BUSBITCHARS "[]x" ;', "refusal 6 19 1"),
+    (b'BUSBITCHARS "[]" ; END LIBRARY', "2 0 0 - 13 2 0 0\n1 records"),
+    (b"SITE s CLASS CORE ; END s END LIBRARY", "refusal 10 29 1"),
+    (b"SITE s\nCLASS CORE ;\nSIZE 1.5 BY 2 ;\nEND s\nEND LIBRARY\n", "8 0 0 - 5 1 0 0\n9 2 7 0 0 0 0 0\n12 0 20 0 0 0 1500000 2000000\n3 records"),
+    (b"MACRO m ORIGIN 1-2 ; END m END LIBRARY", "13 0 0 - 6 1 0 0\n17 0 8 0 0 0 1000000 -2000000\n2 records"),
+    (b"MACRO m ORIGIN 10000000 -10000000 ; END m END LIBRARY", "13 0 0 - 6 1 0 0\n17 0 8 0 0 0 10000000000000 -10000000000000\n2 records"),
+    (b"MACRO m ORIGIN 10000000.000001 0 ;", "refusal 9 32 1"),
+    (b"\n\n@", "refusal 3 2 3"),
+    (b'BUSBITCHARS "\n\n" @', "refusal 3 17 1"),
+    (b"END LIBRARY \x80", "refusal 2 12 0"),
+    (b"@ \xff", "refusal 2 2 0"),
+    (b"VERSION 5.4 ; MACRO m SOURCE USER ;", "refusal 8 28 1"),
+    (FULL % b" ".join([b"X"] * 1816), "8 0 0 - 5 1 0 0\n9 2 7 0 0 0 0 0\n12 0 20 0 0 0 1000000 1000000\n10 0 34 0 0 0 0 0\n" + WORDS + "\n1820 records"),
+    (FULL % b" ".join([b"X"] * 1817), "refusal 11 1821 0"),
+]
+for number, (t, listing) in enumerate(runs, 1):
+    ask("p", bytes([number]) + t, "run %d \n%s\n" % (number, listing))
+
 text = "\n".join(asked) + "\n"
-assert len(text) <= 65536, len(text)
+assert len(text) <= 1048576, len(text)
 open("crates/replay/stdin", "w").write(text)
 open("crates/replay/stdout", "w").write("\n".join(wanted) + "\n")
 print(len(asked), "vectors,", len(text), "bytes")

@@ -8,9 +8,16 @@
 //! readings: `refusal NUMBER PLACE LINE`, or `read` and what the original keeps of the text, in the form that kept.rs defines
 //!
 //! `panic` stands for outcome and reading of a text on which the original stops the program.
+//!
+//! Two more take a file with one text as it is: `counts FILE` says how much is in it, and `speed FILE TIMES` reads it so many
+//! times, for whoever takes the time (tools/lef21/speed).
+//!
+//! It starts as a C program does: Rust's own start looks for the stack in /proc/self/maps, at which qemu 8.2.2 falls over.
+#![no_main]
 mod kept;
 mod numbers;
 mod outcome;
+mod speed;
 mod tokens;
 
 use std::io::{BufRead, Write};
@@ -20,15 +27,23 @@ fn text(line: &str) -> String {
     String::from_utf8(bytes).expect("ASCII")
 }
 
-fn main() {
-    let mode = std::env::args().nth(1).unwrap_or_default();
-    let ask: fn(&str) -> String = match mode.as_str() {
-        "tokens" => tokens::all,
-        "numerals" => numbers::numeral,
-        "decimals" => numbers::decimal,
-        "outcomes" => outcome::outcome,
-        "readings" => outcome::reading,
-        _ => panic!("usage: lef21-oracle tokens | numerals | decimals | outcomes | readings"),
+#[no_mangle]
+pub extern "C" fn main() -> i32 {
+    std::panic::catch_unwind(answer).map_or(101, |_| 0)
+}
+
+fn answer() {
+    let args: Vec<String> = std::env::args().skip(1).collect();
+    let args: Vec<&str> = args.iter().map(|a| a.as_str()).collect();
+    let ask: fn(&str) -> String = match args[..] {
+        ["counts", file] => return println!("{}", speed::counts(file)),
+        ["speed", file, times] => return println!("{}", speed::speed(file, times)),
+        ["tokens"] => tokens::all,
+        ["numerals"] => numbers::numeral,
+        ["decimals"] => numbers::decimal,
+        ["outcomes"] => outcome::outcome,
+        ["readings"] => outcome::reading,
+        _ => panic!("usage: lef21-oracle tokens | numerals | decimals | outcomes | readings | counts FILE | speed FILE TIMES"),
     };
     let stdin = std::io::stdin();
     let mut out = std::io::BufWriter::new(std::io::stdout());
