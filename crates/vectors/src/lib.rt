@@ -1,6 +1,6 @@
 // What the programs that replay vectors share: lines, bytes in hexadecimal, and printing.
 ghost use mathlib.Core.Path.{_≡_};
-ghost use Prim.Native.Nat.{_≤_};
+ghost use Prim.Native.Nat.{_≤_, min};
 ghost use lib.ListN.{length};
 
 pub mod hex;
@@ -15,9 +15,11 @@ pub fn input() -> [u8; 1048576]
 
 // The place of the next such byte from a place on, or the end.
 pub fn next_of(byte: u8, input: &[u8], at: usize) -> usize
-    requires { ⌜ at ≤ length (now input) ⌝ }
-    ensures { λ r. ⌜ (at ≤ r) × (r ≤ length (now (input .entry))) ⌝ }
+    ensures { λ r. ⌜ (min at (length (now (input .entry))) ≤ r) × (r ≤ length (now (input .entry))) ⌝ }
 {
+    if input.len() < at {
+        return input.len();
+    }
     let mut i = at;
     while i < input.len() && input[i] != byte {
         i += 1;
