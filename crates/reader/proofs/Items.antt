@@ -1,8 +1,8 @@
 -- Items in parts: answers chain in any grouping, and two items that pass over nothing are read by themselves.
 use Prim.Native.Nat.{ℕ, zero, suc}
 use Prim.Native.String.{String}
-use mathlib.Core.Path.{_≡_, refl}
-use mathlib.Core.Bool.{Bool, true, false, cond, not, _||_}
+use mathlib.Core.Path.{_≡_, refl, sym, _∙_}
+use mathlib.Core.Bool.{Bool, true, false, cond, not, _||_, or-assoc, or-false}
 use mathlib.Core.List.{List, [], _∷_}
 use Rattle.lexer.specs.Kinds as Kind
 use Rattle.record.specs.Kinds.{WITH-POINT}
@@ -15,7 +15,7 @@ use Rattle.reader.specs.declared.take.Word.{Word}
 use Rattle.reader.specs.declared.take.Word.the-variants as W
 use Rattle.grammar.specs.Tokens.{Tok, Ahead, Answer, ok, refused, then, matches, expect}
 use Rattle.grammar.specs.Grammar.{Item, Move, key, name, x, y, semi, code, ifMore, noName, whole}
-use Rattle.grammar.specs.Engine.{Rec, Frame, Draft, setX, setCode, setName, nameOf, get-name, expect-key, parse-number, empty, item, passed, items}
+use Rattle.grammar.specs.Engine.{Rec, Frame, Draft, setX, setCode, setName, nameOf, get-name, expect-key, parse-number, empty, member, item, passed, items}
 use Rattle.grammar.specs.Turns.{Step, gives, halts, given, ended}
 use Rattle.grammar.specs.Reading.{Mark}
 use Rattle.reader.specs.Open.{siteLacks, points}
@@ -160,3 +160,22 @@ unfolding empty
 site-whole true z = refl
 site-whole false true = refl
 site-whole false false = refl
+
+-- a value compared with each number of a list in turn, as the code joins the answers
+abbrev joined : Bool → List ℕ → ℕ → Bool
+joined b [] v = b
+joined b (n ∷ ns) v = joined (b || eqb n v) ns v
+
+abbrev inTurn : List ℕ → ℕ → Bool
+inTurn [] v = false
+inTurn (n ∷ ns) v = joined (eqb n v) ns v
+
+joins : (b : Bool) (ns : List ℕ) (v : ℕ) → joined b ns v ≡ b || member ns v
+unfolding member
+joins b [] v = sym (or-false b)
+joins b (n ∷ ns) v = joins (b || eqb n v) ns v ∙ or-assoc b (eqb n v) (member ns v)
+
+pub in-turn : (ns : List ℕ) (v : ℕ) → inTurn ns v ≡ member ns v
+unfolding member
+in-turn [] v = refl
+in-turn (n ∷ ns) v = joins (eqb n v) ns v

@@ -1,6 +1,7 @@
 pub mod Acts
 pub mod Ahead
 pub mod Items
+pub mod Rows
 pub mod Second
 pub mod Tally
 pub mod Handed

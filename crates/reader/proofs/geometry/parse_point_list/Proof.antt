@@ -1,7 +1,6 @@
 -- `reader::geometry::parse_point_list` meets its contract: a point, or the `;` where none lacks.
 use mathlib.Core.Path.{ap, sym, _∙_}
 use mathlib.Core.List.{[], _∷_}
-use borrow.Author.Needs.{needs}
 use borrow.Author.Tests.{eq-eqb, ne-eqb}
 use Rattle.grammar.specs.Grammar.{semi}
 use Rattle.grammar.specs.Engine.{blank, empty}
@@ -17,13 +16,13 @@ unfolding step
 parse-point-list-spec =
     tie.close
     (tie.spec
-    (λ c κs. search needs)
+    (λ c κs. tt)
     (λ c v f e l. rw (ne-eqb _ _ (c .before .if1 .taken)) (c .point .ensures f e))
-    (λ c κs. search needs)
+    (λ c κs. tt)
     (λ c v f e l. let a = c .before .before .before .before .args in
     rw (c .complain .ensures, eq-eqb _ _ (c .before .before .if1 .left), whole-not f 6 (semi ∷ []) (blank 0 f (aheadOf (a .text .now) (a .held))) (aheadOf (a .text .now) (a .held)) (ap empty l ∙ some-lack _ (c .before .if2 .taken))))
-    (λ c κs. search needs)
-    (λ c κs. search needs)
+    (λ c κs. tt)
+    (λ c κs. tt)
     (λ c v f e l. let a = c .before .before .before .before .before .args in
     rw (eq-eqb _ _ (c .before .before .before .if1 .left), whole-is f 6 (semi ∷ []) (blank 0 f (aheadOf (a .text .now) (a .held))) (aheadOf (a .text .now) (a .held)) (ap empty l ∙ none-lack _ (c .before .before .if2 .left)))
     (c .ends .ensures (a .text .now) (a .held) ∙ ap (λ z. filedStep (ended z)) (c .before .expect .ensures)

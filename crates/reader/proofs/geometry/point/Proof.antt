@@ -1,9 +1,6 @@
 -- `reader::geometry::point` meets its contract: the point is the answer of `parse_point`.
-use borrow.Author.Needs.{needs}
-use Rattle.record.specs.Kinds.{POINT}
-use Rattle.grammar.specs.Engine.{blank}
-use Rattle.reader.specs.Code.{aheadOf}
 use Rattle.reader.specs.Stepped.{moveOf}
+use Rattle.reader.proofs.Rows.{stop-set, past-set}
 use Rattle.reader.proofs.geometry.point.Statement.{statement}
 use Rattle.reader.proofs.geometry.point.Tie as tie
 
@@ -12,10 +9,7 @@ unfolding moveOf
 point-spec =
     tie.close
     (tie.spec
-    (λ c κs. search needs)
-    (λ c. search needs)
-    (λ c. search needs)
-    (λ c κs. search needs)
-    (λ c f e. simp (c .point-refusal .ensures, c .before .enum-told .given .1, ← (c .before .before .before .parse-point .ensures f (blank POINT f (aheadOf (c .before .before .before .before .before .args .text .now) (c .before .before .before .before .before .args .held))))))
-    (λ c κs. search needs)
-    (λ c f e. simp (c .point .ensures, c .before .before .a .given .1, ← (c .before .before .before .before .parse-point .ensures f (blank POINT f (aheadOf (c .before .before .before .before .before .before .args .text .now) (c .before .before .before .before .before .before .args .held))))) (simp e)))
+    (λ c κs. tt) (λ c. c .match .keys1) (λ c. c .match .keys2) (λ c κs. tt)
+    (λ c f e. stop-set _ _ _ (c .point-refusal .ensures) (c .before .enum-told .given .1) (c .before .before .before .parse-point .ensures f _))
+    (λ c κs. tt)
+    (λ c f e. past-set _ _ _ (c .before .before .a .given .1) (c .before .before .before .before .parse-point .ensures f _) (simp (e, c .point .ensures))))

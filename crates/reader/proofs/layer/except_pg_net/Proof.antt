@@ -1,5 +1,4 @@
 -- `reader::layer::except_pg_net` meets its contract: the record has its code and nothing else.
-use borrow.Author.Needs.{needs}
 use Rattle.grammar.specs.Engine.{item, items}
 use Rattle.reader.specs.Stepped.{moveOf}
 use Rattle.reader.proofs.layer.except_pg_net.Statement.{statement}
@@ -10,5 +9,5 @@ unfolding item items moveOf
 except-pg-net-spec =
     tie.close
     (tie.spec
-    (λ c κs. search needs)
+    (λ c κs. tt)
     (λ c s f e. simp (e, c .except-pg-net .ensures)))

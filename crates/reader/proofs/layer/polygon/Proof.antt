@@ -1,5 +1,4 @@
 -- `reader::layer::polygon` meets its contract: the word is taken.
-use borrow.Author.Needs.{needs}
 use Rattle.grammar.specs.Engine.{item, items}
 use Rattle.reader.specs.Stepped.{moveOf}
 use Rattle.reader.proofs.layer.polygon.Statement.{statement}
@@ -10,10 +9,10 @@ unfolding item items moveOf
 polygon-spec =
     tie.close
     (tie.spec
-    (λ c κs. search needs)
-    (λ c. search needs)
-    (λ c. search needs)
-    (λ c κs. search needs)
+    (λ c κs. tt)
+    (λ c. c .match .keys1)
+    (λ c. c .match .keys2)
+    (λ c κs. tt)
     (λ c f e. simp (e, c .taken-refusal .ensures, c .before .enum-told .given .1, ← (c .before .before .before .next-token .ensures)))
-    (λ c κs. search needs)
+    (λ c κs. tt)
     (λ c f e. simp (e, c .polygon .ensures, c .before .before .a .given .1, ← (c .before .before .before .before .next-token .ensures))))

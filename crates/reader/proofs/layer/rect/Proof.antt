@@ -1,5 +1,4 @@
 -- `reader::layer::rect` meets its contract: the word is taken, and no name follows.
-use borrow.Author.Needs.{needs}
 use borrow.Author.Tests.{eq-eqb, ne-eqb}
 use Rattle.grammar.specs.Engine.{item, items}
 use Rattle.reader.specs.Stepped.{moveOf}
@@ -11,9 +10,9 @@ unfolding item items moveOf
 rect-spec =
     tie.close
     (tie.spec
-    (λ c κs. search needs) (λ c. search needs) (λ c. search needs) (λ c κs. search needs)
+    (λ c κs. tt) (λ c. c .match .keys1) (λ c. c .match .keys2) (λ c κs. tt)
     (λ c f e. simp (c .taken-refusal .ensures, c .before .enum-told .given .1, ← (c .before .before .before .next-token .ensures)))
-    (λ c κs. search needs)
+    (λ c κs. tt)
     (λ c f e. simp (c .complain .ensures, eq-eqb _ _ (c .before .if1 .taken), c .before .before .before .a .given .1, ← (c .before .before .before .before .before .next-token .ensures)))
-    (λ c κs. search needs)
+    (λ c κs. tt)
     (λ c f e. simp (e, c .rect .ensures, ne-eqb _ _ (c .before .if1 .left), c .before .before .before .a .given .1, ← (c .before .before .before .before .before .next-token .ensures))))

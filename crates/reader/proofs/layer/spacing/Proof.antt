@@ -1,5 +1,4 @@
 -- `reader::layer::spacing` meets its contract: the number is the answer of `parse_number`.
-use borrow.Author.Needs.{needs}
 use Rattle.grammar.specs.Engine.{item, items}
 use Rattle.reader.specs.Stepped.{moveOf}
 use Rattle.reader.proofs.layer.spacing.Statement.{statement}
@@ -10,7 +9,7 @@ unfolding item items moveOf
 spacing-spec =
     tie.close
     (tie.spec
-    (λ c κs. search needs) (λ c. search needs) (λ c. search needs) (λ c κs. search needs)
+    (λ c κs. tt) (λ c. c .match .keys1) (λ c. c .match .keys2) (λ c κs. tt)
     (λ c f e. simp (c .number-refusal .ensures, c .before .enum-told .given .1, ← (c .before .before .before .parse-number .ensures)))
-    (λ c κs. search needs)
+    (λ c κs. tt)
     (λ c f e. simp (e, c .spacing .ensures, c .before .before .a .given .1, ← (c .before .before .before .before .parse-number .ensures))))

@@ -1,5 +1,4 @@
 -- `reader::library::end_library` meets its contract: the answers of the takers in turn.
-use borrow.Author.Needs.{needs}
 use Rattle.grammar.specs.Engine.{item, items}
 use Rattle.reader.proofs.Items.{library-word}
 use Rattle.reader.proofs.library.end_library.Statement.{statement}
@@ -10,8 +9,8 @@ unfolding item items
 end-library-spec =
     tie.close
     (tie.spec
-    (λ c κs. search needs) (λ c. search needs) (λ c. search needs) (λ c κs. search needs)
+    (λ c κs. tt) (λ c. c .match .keys1) (λ c. c .match .keys2) (λ c κs. tt)
     (λ c f. simp (library-word, c .taken-refusal .ensures, c .before .enum-told .given .1, ← (c .before .before .before .next-token .ensures)))
-    (λ c κs. search needs) (λ c. search needs) (λ c. search needs) (λ c κs. search needs)
+    (λ c κs. tt) (λ c. c .match2 .keys1) (λ c. c .match2 .keys2) (λ c κs. tt)
     (λ c f. simp (library-word, c .word-refusal .ensures, c .before .enum-told2 .given .1, ← (c .before .before .before .expect-key .ensures), c .before .before .before .before .before .a .given .1, ← (c .before .before .before .before .before .before .before .next-token .ensures)))
     (λ c f. simp (library-word, c .before .b .given .1, ← (c .before .before .before .expect-key .ensures), c .before .before .before .before .before .a .given .1, ← (c .before .before .before .before .before .before .before .next-token .ensures))))

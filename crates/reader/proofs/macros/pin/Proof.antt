@@ -1,27 +1,19 @@
 -- `reader::macros::pin` meets its contract: the answers of the takers in turn.
-use borrow.Author.Needs.{needs}
 use native.Mathlib.Nat.{add-zero}
-use Rattle.grammar.specs.Engine.{item, items}
 use Rattle.reader.specs.Stepped.{moveOf}
 use Rattle.reader.proofs.Ahead.{as-long}
+use Rattle.reader.proofs.Rows.{stop-taken, stop-title, past-taken, past-title}
 use Rattle.reader.proofs.macros.pin.Statement.{statement}
 use Rattle.reader.proofs.macros.pin.Tie as tie
 
 pub pin-spec : {M : Type 1} → statement M
-unfolding item items moveOf
+unfolding moveOf
 pin-spec =
     tie.close
     (tie.spec
-    (λ c κs. search needs)
-    (λ c. search needs)
-    (λ c. search needs)
-    (λ c κs. search needs)
-    (λ c f e. simp (e, c .taken-refusal .ensures, c .before .enum-told .given .1, ← (c .before .before .before .next-token .ensures)))
-    (λ c κs. search needs)
-    (λ c. search needs)
-    (λ c. search needs)
-    (λ c κs. search needs)
-    (λ c f e. simp (e, c .taken-refusal2 .ensures, c .before .enum-told2 .given .1, ← (c .before .before .before .get-name .ensures), c .before .before .before .before .before .a .given .1, ← (c .before .before .before .before .before .before .before .next-token .ensures)))
-    (λ c κs. search needs)
-    (λ c κs. search needs)
-    (λ c f e. simp (e, c .pin .ensures, add-zero, as-long, c .before .txt .ensures, c .before .before .before .b .given .1, ← (c .before .before .before .before .before .get-name .ensures), c .before .before .before .before .before .before .before .a .given .1, ← (c .before .before .before .before .before .before .before .before .before .next-token .ensures))))
+    (λ c κs. tt) (λ c. c .match .keys1) (λ c. c .match .keys2) (λ c κs. tt)
+    (λ c f e. stop-taken _ _ _ _ (c .taken-refusal .ensures) (c .before .enum-told .given .1) (c .before .before .before .next-token .ensures))
+    (λ c κs. tt) (λ c. c .match2 .keys1) (λ c. c .match2 .keys2) (λ c κs. tt)
+    (λ c f e. past-taken _ _ _ _ (c .before .before .before .before .before .a .given .1) (c .before .before .before .before .before .before .before .next-token .ensures) (stop-title _ _ _ _ _ _ (c .taken-refusal2 .ensures) (c .before .enum-told2 .given .1) (c .before .before .before .get-name .ensures)))
+    (λ c κs. tt) (λ c κs. tt)
+    (λ c f e. past-taken _ _ _ _ (c .before .before .before .before .before .before .before .a .given .1) (c .before .before .before .before .before .before .before .before .before .next-token .ensures) (past-title _ _ _ _ _ _ (c .before .before .before .b .given .1) (c .before .before .before .before .before .get-name .ensures) (simp (e, c .pin .ensures, add-zero, as-long, c .before .txt .ensures)))))

@@ -1,5 +1,4 @@
 -- `reader::pin::direction` meets its contract: the code is the answer of `parse_pin_direction`.
-use borrow.Author.Needs.{needs}
 use Rattle.record.specs.Kinds.{DIRECTION}
 use mathlib.Core.Path.{refl}
 use Rattle.grammar.specs.Engine.{blank}
@@ -14,10 +13,10 @@ unfolding moveOf
 direction-spec =
     tie.close
     (tie.spec
-    (λ c κs. search needs)
-    (λ c. search needs)
-    (λ c. search needs)
-    (λ c κs. search needs)
+    (λ c κs. tt)
+    (λ c. c .match .keys1)
+    (λ c. c .match .keys2)
+    (λ c κs. tt)
     (λ c f e. simp (by-record, c .word-refusal .ensures, c .before .enum-told .given .1, ← (c .before .before .before .parse-pin-direction .ensures f (blank DIRECTION f (aheadOf (c .before .before .before .before .before .args .text .now) (c .before .before .before .before .before .args .held))) refl)))
-    (λ c κs. search needs)
+    (λ c κs. tt)
     (λ c f e. simp (by-record, c .direction .ensures, c .before .before .a .given .1, ← (c .before .before .before .before .parse-pin-direction .ensures f (blank DIRECTION f (aheadOf (c .before .before .before .before .before .before .args .text .now) (c .before .before .before .before .before .before .args .held))) refl)) (simp e)))

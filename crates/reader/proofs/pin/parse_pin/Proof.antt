@@ -1,6 +1,5 @@
 -- `reader::pin::parse_pin` meets its contract: each arm is the row of its word.
 use mathlib.Core.Path.{_∙_}
-use borrow.Author.Needs.{needs}
 use Rattle.grammar.specs.Grammar.{Pin}
 use Rattle.grammar.specs.Table.{body}
 use Rattle.grammar.specs.Turns.{perform}
@@ -13,10 +12,10 @@ unfolding perform
 parse-pin-spec =
     tie.close
     (tie.spec
-    (λ c κs. search needs) (λ c. search needs) (λ c. search needs) (λ c κs. search needs)
+    (λ c κs. tt) (λ c. c .match .keys1) (λ c. c .match .keys2) (λ c κs. tt)
     (λ c v f e l. let a = c .before .before .before .before .before .args in rw (c .peeked-refusal .ensures, c .before .enum-told .given .1)
     (unseen (a .text .now) v f (a .held) 5 (rowsOf (body Pin)) _ pin-words _ (c .before .before .before .peek-key .ensures) _ (c .before .enum-told .given .1)))
-    (λ c κs. search needs) (λ c κs. search needs) (λ c κs. search needs) (λ c κs. search needs) (λ c κs. search needs) (λ c κs. search needs) (λ c κs. search needs) (λ c κs. search needs) (λ c κs. search needs) (λ c κs. search needs) (λ c κs. search needs) (λ c κs. search needs) (λ c κs. search needs) (λ c κs. search needs) (λ c κs. search needs) (λ c κs. search needs) (λ c κs. search needs) (λ c κs. search needs) (λ c κs. search needs) (λ c κs. search needs) (λ c κs. search needs) (λ c κs. search needs)
+    (λ c κs. tt) (λ c κs. tt) (λ c κs. tt) (λ c κs. tt) (λ c κs. tt) (λ c κs. tt) (λ c κs. tt) (λ c κs. tt) (λ c κs. tt) (λ c κs. tt) (λ c κs. tt) (λ c κs. tt) (λ c κs. tt) (λ c κs. tt) (λ c κs. tt) (λ c κs. tt) (λ c κs. tt) (λ c κs. tt) (λ c κs. tt) (λ c κs. tt) (λ c κs. tt) (λ c κs. tt)
     (λ c v f e l. let a = c .before .before .before .before .before .before .before .args in c .direction .ensures f e ∙ looked (a .text .now) v f (a .held) 5 (rowsOf (body Pin)) _ pin-words _ (c .before .before .before .before .before .peek-key .ensures) _ _ (c .before .before .before .p .given .1) (c .before .match2 .keys1))
     (λ c v f e l. let a = c .before .before .before .before .before .before .before .args in c .pin-use .ensures f e ∙ looked (a .text .now) v f (a .held) 5 (rowsOf (body Pin)) _ pin-words _ (c .before .before .before .before .before .peek-key .ensures) _ _ (c .before .before .before .p .given .1) (c .before .match2 .keys2))
     (λ c v f e l. let a = c .before .before .before .before .before .before .before .args in c .shape .ensures f e ∙ looked (a .text .now) v f (a .held) 5 (rowsOf (body Pin)) _ pin-words _ (c .before .before .before .before .before .peek-key .ensures) _ _ (c .before .before .before .p .given .1) (c .before .match2 .keys3))

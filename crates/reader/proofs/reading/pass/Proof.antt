@@ -26,7 +26,7 @@ pass-spec =
     tie.close
     (tie.spec Inv-loop μ-loop
     (λ c. let a = c .before .before .args in (refl, omega (arith, few-ahead (a .text .now) (a .start .held)), refl))
-    (λ c κs. search needs) (λ c. search needs) (λ c κs. search needs)
+    (λ c κs. tt) (λ c. search needs) (λ c κs. tt)
     (λ c. let d = c .before .before .before .before .before .before .before in
     omega (arith, d .before .before .before .before .good, d .before .loop .inv .1, emits-less _ (d .before .loop .st) _ (d .one-turn .ensures) _ _ (c .before .before .before .before .before .r .given .1)))
     (λ c. let d = c .before .before .before .before .before .before .before in emits-less _ (d .before .loop .st) _ (d .one-turn .ensures) _ _ (c .before .before .before .before .before .r .given .1))

@@ -1,5 +1,4 @@
 -- `reader::shared::end_name` meets its contract: the answers of the takers in turn.
-use borrow.Author.Needs.{needs}
 use Rattle.grammar.specs.Engine.{item, items}
 use Rattle.reader.specs.Stepped.{moveOf}
 use Rattle.reader.proofs.shared.end_name.Statement.{statement}
@@ -10,14 +9,14 @@ unfolding item items moveOf
 end-name-spec =
     tie.close
     (tie.spec
-    (λ c κs. search needs)
-    (λ c. search needs)
-    (λ c. search needs)
-    (λ c κs. search needs)
+    (λ c κs. tt)
+    (λ c. c .match .keys1)
+    (λ c. c .match .keys2)
+    (λ c κs. tt)
     (λ c f e. simp (e, c .taken-refusal .ensures, c .before .enum-told .given .1, ← (c .before .before .before .next-token .ensures)))
-    (λ c κs. search needs)
-    (λ c. search needs)
-    (λ c. search needs)
-    (λ c κs. search needs)
+    (λ c κs. tt)
+    (λ c. c .match2 .keys1)
+    (λ c. c .match2 .keys2)
+    (λ c κs. tt)
     (λ c f e. simp (e, c .taken-refusal2 .ensures, c .before .enum-told2 .given .1, ← (c .before .before .before .expect-ident .ensures), c .before .before .before .before .before .a .given .1, ← (c .before .before .before .before .before .before .before .next-token .ensures)))
     (λ c f e. simp (e, c .before .b .given .1, ← (c .before .before .before .expect-ident .ensures), c .before .before .before .before .before .a .given .1, ← (c .before .before .before .before .before .before .before .next-token .ensures))))

@@ -8,7 +8,7 @@ peeked-refusal-spec =
     tie.close
     (tie.spec
     (λ c. search needs)
-    (λ c κs. search needs)
+    (λ c κs. tt)
     (λ c. search needs)
     (λ c. simp (c .complain .ensures, c .before .enum-told .given .1))
     (λ c. simp (c .before .t .given .1)))

@@ -1,5 +1,4 @@
 -- `reader::step::ends` meets its contract: each arm is a case of the answer.
-use borrow.Author.Needs.{needs}
 use Rattle.reader.proofs.step.ends.Statement.{statement}
 use Rattle.reader.proofs.step.ends.Tie as tie
 
@@ -7,7 +6,7 @@ pub ends-spec : {M : Type 1} → statement M
 ends-spec =
     tie.close
     (tie.spec
-    (λ c. search needs)
-    (λ c. search needs)
+    (λ c. c .match .keys1)
+    (λ c. c .match .keys2)
     (λ c s h. simp (c .before .t .given .1))
     (λ c s h. simp (c .before .t2 .given .1)))

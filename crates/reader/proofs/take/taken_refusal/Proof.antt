@@ -6,6 +6,6 @@ use Rattle.reader.proofs.take.taken_refusal.Tie as tie
 pub taken-refusal-spec : {M : Type 1} → statement M
 taken-refusal-spec =
     tie.close
-    (tie.spec (λ c. search needs) (λ c κs. search needs) (λ c. search needs)
+    (tie.spec (λ c. search needs) (λ c κs. tt) (λ c. search needs)
     (λ c. rw (c .complain .ensures, c .before .before .t .given .1))
     (λ c. search needs))

@@ -12,6 +12,6 @@ ended-spec =
     tie.close
     (tie.spec
     (λ c. search needs)
-    (λ c κs. search needs)
+    (λ c κs. tt)
     (λ c s. let a = c .before .before .args in last-turn s (a .st) (a .next) (c .enum-told .given .1))
     (λ c s. let a = c .before .before .args in rw (c .left .ensures) (left-turn s (a .st) (a .next) (rw (← (tag-number (a .st .block))) (among-others 0 1 (2 ∷ 3 ∷ 4 ∷ 5 ∷ 6 ∷ 7 ∷ 8 ∷ 9 ∷ 10 ∷ 11 ∷ 12 ∷ []) _ refl (c .before .match .keys2))))))

@@ -8,15 +8,15 @@ pub one-turn-spec : {M : Type 1} → statement M
 one-turn-spec =
     tie.close
     (tie.spec
-    (λ c κs. search needs)
+    (λ c κs. tt)
     (λ c. search needs)
-    (λ c κs. search needs)
+    (λ c κs. tt)
     (λ c. search needs)
-    (λ c κs. search needs)
+    (λ c κs. tt)
     (λ c. search needs)
-    (λ c κs. search needs)
+    (λ c κs. tt)
     (λ c. search needs)
-    (λ c κs. search needs)
+    (λ c κs. tt)
     (λ c. search needs)
     (λ c. let a = c .before .before .before .before .before .before .args in let h = c .before .before .before .before .one-step .ensures in
     gives-turn (a .text .now) (a .st) _ _ (rw (c .before .before .step .given .1) at h) (c .after .result) (c .after .ensures))

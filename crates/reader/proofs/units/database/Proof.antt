@@ -1,5 +1,4 @@
 -- `reader::units::database` meets its contract: the number is the answer of `parse_microns`.
-use borrow.Author.Needs.{needs}
 use Rattle.record.specs.Kinds.{DATABASE}
 use Rattle.grammar.specs.Engine.{blank}
 use Rattle.reader.specs.Code.{aheadOf}
@@ -12,7 +11,7 @@ unfolding moveOf
 database-spec =
     tie.close
     (tie.spec
-    (λ c κs. search needs) (λ c. search needs) (λ c. search needs) (λ c κs. search needs)
+    (λ c κs. tt) (λ c. c .match .keys1) (λ c. c .match .keys2) (λ c κs. tt)
     (λ c f e. simp (c .number-refusal .ensures, c .before .enum-told .given .1, ← (c .before .before .before .parse-microns .ensures f (blank DATABASE f (aheadOf (c .before .before .before .before .before .args .text .now) (c .before .before .before .before .before .args .held))))))
-    (λ c κs. search needs)
+    (λ c κs. tt)
     (λ c f e. simp (c .database-microns .ensures, c .before .before .a .given .1, ← (c .before .before .before .before .parse-microns .ensures f (blank DATABASE f (aheadOf (c .before .before .before .before .before .before .args .text .now) (c .before .before .before .before .before .before .args .held))))) (simp e)))

@@ -1,5 +1,4 @@
 -- `reader::units::end_units` meets its contract: the word is the answer of `expect_keyword`.
-use borrow.Author.Needs.{needs}
 use Rattle.grammar.specs.Engine.{item, items}
 use Rattle.reader.proofs.Items.{units-word}
 use Rattle.reader.proofs.units.end_units.Statement.{statement}
@@ -10,6 +9,6 @@ unfolding item items
 end-units-spec =
     tie.close
     (tie.spec
-    (λ c κs. search needs) (λ c. search needs) (λ c. search needs) (λ c κs. search needs)
+    (λ c κs. tt) (λ c. c .match .keys1) (λ c. c .match .keys2) (λ c κs. tt)
     (λ c f d. simp (units-word, c .word-refusal .ensures, c .before .enum-told .given .1, ← (c .before .before .before .expect-keyword .ensures)))
     (λ c f d. simp (units-word, c .before .a .given .1, ← (c .before .before .before .expect-keyword .ensures))))

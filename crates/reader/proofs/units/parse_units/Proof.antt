@@ -1,6 +1,5 @@
 -- `reader::units::parse_units` meets its contract: the word is taken, and each arm is its row.
 use mathlib.Core.Path.{sym, ap, _∙_}
-use borrow.Author.Needs.{needs}
 use Rattle.word.specs.Words.{wordOf}
 use Rattle.grammar.specs.Grammar.{Units}
 use Rattle.grammar.specs.Table.{body}
@@ -16,10 +15,10 @@ unfolding perform step
 parse-units-spec =
     tie.close
     (tie.spec
-    (λ c κs. search needs) (λ c. search needs) (λ c. search needs) (λ c κs. search needs)
+    (λ c κs. tt) (λ c. c .match .keys1) (λ c. c .match .keys2) (λ c κs. tt)
     (λ c v f e. simp (c .taken-refusal .ensures, c .before .enum-told .given .1, ← (c .before .before .before .get-name .ensures)))
-    (λ c κs. search needs) (λ c κs. search needs)
-    (λ c κs. search needs) (λ c κs. search needs) (λ c κs. search needs) (λ c κs. search needs) (λ c κs. search needs) (λ c κs. search needs) (λ c κs. search needs) (λ c κs. search needs) (λ c κs. search needs) (λ c κs. search needs)
+    (λ c κs. tt) (λ c κs. tt)
+    (λ c κs. tt) (λ c κs. tt) (λ c κs. tt) (λ c κs. tt) (λ c κs. tt) (λ c κs. tt) (λ c κs. tt) (λ c κs. tt) (λ c κs. tt) (λ c κs. tt)
     (λ c v f e. let a = c .before .before .before .before .before .before .before .before .before .args in (c .database .ensures f e ∙ judged-as (a .text .now) v f (a .held) (c .before .before .before .before .before .a .given .0 .0) (rowsOf (body Units)) _ units-words (sym (rw (c .before .before .before .before .before .a .given .1) at (c .before .before .before .before .before .before .before .get-name .ensures))) _ (c .before .before .word-of .ensures ∙ ap wordOf (c .before .before .before .txt .ensures)) _ (c .before .match2 .keys1)))
     (λ c v f e. let a = c .before .before .before .before .before .before .before .before .before .args in rw (c .complain .ensures) (judged-as (a .text .now) v f (a .held) (c .before .before .before .before .before .a .given .0 .0) (rowsOf (body Units)) _ units-words (sym (rw (c .before .before .before .before .before .a .given .1) at (c .before .before .before .before .before .before .before .get-name .ensures))) _ (c .before .before .word-of .ensures ∙ ap wordOf (c .before .before .before .txt .ensures)) _ (c .before .match2 .keys2)))
     (λ c v f e. let a = c .before .before .before .before .before .before .before .before .before .args in rw (c .complain2 .ensures) (judged-as (a .text .now) v f (a .held) (c .before .before .before .before .before .a .given .0 .0) (rowsOf (body Units)) _ units-words (sym (rw (c .before .before .before .before .before .a .given .1) at (c .before .before .before .before .before .before .before .get-name .ensures))) _ (c .before .before .word-of .ensures ∙ ap wordOf (c .before .before .before .txt .ensures)) _ (c .before .match2 .keys3)))

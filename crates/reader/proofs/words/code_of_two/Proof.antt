@@ -1,5 +1,4 @@
 -- `reader::words::code_of_two` meets its contract: by the test of the second word.
-use borrow.Author.Needs.{needs}
 use borrow.Author.Tests.{eq-eqb, ne-eqb}
 use Rattle.reader.proofs.words.code_of_two.Statement.{statement}
 use Rattle.reader.proofs.words.code_of_two.Tie as tie
@@ -9,5 +8,5 @@ code-of-two-spec =
     tie.close
     (tie.spec
     (λ c. rw (eq-eqb _ _ (c .if1 .taken)))
-    (λ c κs. search needs)
+    (λ c κs. tt)
     (λ c. rw (ne-eqb _ _ (c .before .if1 .left), c .code-of .ensures)))

@@ -1,6 +1,5 @@
 -- `reader::words::first_direction` meets its contract: the answer of `get_key`, looked at by `begins_direction`.
 use mathlib.Core.Path.{sym, _∙_}
-use borrow.Author.Needs.{needs}
 use Rattle.grammar.specs.Engine.{item, items}
 use Rattle.reader.proofs.words.first_direction.Statement.{statement}
 use Rattle.reader.proofs.words.first_direction.Tie as tie
@@ -10,9 +9,9 @@ unfolding item items
 first-direction-spec =
     tie.close
     (tie.spec
-    (λ c κs. search needs) (λ c. search needs) (λ c. search needs)
+    (λ c κs. tt) (λ c. c .match .keys1) (λ c. c .match .keys2)
     (λ c f d e. simp (c .enum-told .given .1, ← (c .before .before .get-key .ensures)))
-    (λ c κs. search needs) (λ c κs. search needs)
+    (λ c κs. tt) (λ c κs. tt)
     (λ c f d e. let b = c .before in
     simp (e, sym (b .begins-direction .ensures) ∙ c .if1 .taken, b .before .before .answer .given .1, ← (b .before .before .before .before .get-key .ensures)))
     (λ c f d e. let b = c .before .before in

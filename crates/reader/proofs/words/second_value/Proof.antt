@@ -2,7 +2,6 @@
 use mathlib.Core.Path.{sym, ap, _∙_}
 use mathlib.Core.Bool.{cond}
 use lib.Dec.{eqb}
-use borrow.Author.Needs.{needs}
 use borrow.Author.Tests.{eq-eqb, ne-eqb}
 use Rattle.word.specs.Words.{wordOf}
 use Rattle.word.specs.Codes.{codeOf}
@@ -15,9 +14,9 @@ unfolding parse-enum
 second-value-spec =
     tie.close
     (tie.spec
-    (λ c κs. search needs) (λ c. search needs) (λ c. search needs) (λ c κs. search needs)
+    (λ c κs. tt) (λ c. c .match .keys1) (λ c. c .match .keys2) (λ c κs. tt)
     (λ c. simp (c .taken-refusal .ensures, c .before .enum-told .given .1, ← (c .before .before .before .get-name .ensures)))
-    (λ c κs. search needs) (λ c κs. search needs) (λ c κs. search needs) (λ c κs. search needs)
+    (λ c κs. tt) (λ c κs. tt) (λ c κs. tt) (λ c κs. tt)
     (λ c. let d = c .before .before in
     let g = d .before .before .before .before .before .before in
     let v = d .code-of-two .ensures ∙ ap (λ v. cond (eqb v 0) 0 (codeOf (g .before .before .args .kind) (g .before .before .args .w) v)) (d .before .word-of .ensures ∙ ap wordOf (d .before .before .txt .ensures)) in

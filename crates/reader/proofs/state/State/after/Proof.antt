@@ -1,6 +1,5 @@
 -- `reader::state::State::after` meets its contract: by the kind, each arm is the record's effect in the blocks that may have it.
 use mathlib.Core.Path.{sym, _∙_}
-use borrow.Author.Needs.{needs}
 use borrow.Author.Tests.{ne-eqb}
 use Rattle.reader.specs.declared.state.Block.the-variants as B
 use Rattle.reader.specs.Stepped.{moveOf}
@@ -15,23 +14,23 @@ unfolding homes fitsIn moveOf
 after-spec =
     tie.close
     (tie.spec
-    (λ c κs. search needs)
-    (λ c κs. search needs)
-    (λ c κs. search needs)
-    (λ c κs. search needs)
-    (λ c κs. search needs)
-    (λ c κs. search needs)
-    (λ c κs. search needs)
-    (λ c κs. search needs)
-    (λ c κs. search needs)
-    (λ c κs. search needs)
-    (λ c κs. search needs)
-    (λ c κs. search needs)
-    (λ c κs. search needs)
-    (λ c κs. search needs)
-    (λ c κs. search needs)
-    (λ c κs. search needs)
-    (λ c κs. search needs)
+    (λ c κs. tt)
+    (λ c κs. tt)
+    (λ c κs. tt)
+    (λ c κs. tt)
+    (λ c κs. tt)
+    (λ c κs. tt)
+    (λ c κs. tt)
+    (λ c κs. tt)
+    (λ c κs. tt)
+    (λ c κs. tt)
+    (λ c κs. tt)
+    (λ c κs. tt)
+    (λ c κs. tt)
+    (λ c κs. tt)
+    (λ c κs. tt)
+    (λ c κs. tt)
+    (λ c κs. tt)
     (λ c. let e = c .after-version .ensures in let k = sym (c .before .before .kind .ensures) ∙ c .before .match .keys1 in
     (e .0, λ s f. e .1 s k (the-one _ B.Library (rw k at f))))
     (λ c. let e = c .after-units .ensures in let k = sym (c .before .before .kind .ensures) ∙ c .before .match .keys2 in

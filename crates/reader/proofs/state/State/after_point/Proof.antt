@@ -9,7 +9,7 @@ pub after-point-spec : {M : Type 1} → statement M
 after-point-spec =
     tie.close
     (tie.spec
-    (λ c κs. search needs)
+    (λ c κs. tt)
     (λ c. search needs)
     (λ c. let m = c .before .stayed .ensures in let a = c .before .before .args in
     (rw m, λ s k b. rw m (after-point s (a .self) (a .next) (a .r) _ (one-point (a .self .wants) _ (c .if1 .taken) refl) k b)))

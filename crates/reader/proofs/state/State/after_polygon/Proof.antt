@@ -1,5 +1,4 @@
 -- `reader::state::State::after_polygon` meets its contract: the block lacks three points.
-use borrow.Author.Needs.{needs}
 use Rattle.reader.proofs.After.{after-polygon}
 use Rattle.reader.proofs.state.State.after_polygon.Statement.{statement}
 use Rattle.reader.proofs.state.State.after_polygon.Tie as tie
@@ -8,7 +7,7 @@ pub after-polygon-spec : {M : Type 1} → statement M
 after-polygon-spec =
     tie.close
     (tie.spec
-    (λ c κs. search needs)
-    (λ c κs. search needs)
+    (λ c κs. tt)
+    (λ c κs. tt)
     (λ c. let m = c .before .moved .ensures in let a = c .before .before .args in
     (rw m, λ s k b. rw (m, c .at .ensures) (after-polygon s (a .self) (a .next) (a .r) k b))))

@@ -1,5 +1,4 @@
 -- `reader::state::State::after_port` meets its contract: the block starts where the record does.
-use borrow.Author.Needs.{needs}
 use Rattle.grammar.specs.Turns.{without}
 use Rattle.reader.specs.Stepped.{moveOf}
 use Rattle.reader.proofs.state.State.after_port.Statement.{statement}
@@ -10,6 +9,6 @@ unfolding moveOf without
 after-port-spec =
     tie.close
     (tie.spec
-    (λ c κs. search needs)
-    (λ c κs. search needs)
+    (λ c κs. tt)
+    (λ c κs. tt)
     (λ c. (rw (c .before .moved .ensures), λ s k b. simp (c .before .moved .ensures, c .at .ensures, k, b))))

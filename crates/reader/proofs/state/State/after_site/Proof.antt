@@ -1,5 +1,4 @@
 -- `reader::state::State::after_site` meets its contract: the block has the name of the record.
-use borrow.Author.Needs.{needs}
 use Rattle.grammar.specs.Turns.{without}
 use Rattle.reader.specs.Stepped.{moveOf}
 use Rattle.reader.proofs.state.State.after_site.Statement.{statement}
@@ -10,8 +9,8 @@ unfolding moveOf without
 after-site-spec =
     tie.close
     (tie.spec
-    (λ c κs. search needs)
-    (λ c κs. search needs)
-    (λ c κs. search needs)
-    (λ c κs. search needs)
+    (λ c κs. tt)
+    (λ c κs. tt)
+    (λ c κs. tt)
+    (λ c κs. tt)
     (λ c. let m = c .before .before .before .moved .ensures in (rw m, λ s k b. simp (m, c .before .before .at .ensures, c .before .name .ensures, c .len .ensures, k, b))))

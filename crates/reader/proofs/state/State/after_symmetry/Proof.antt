@@ -1,5 +1,4 @@
 -- `reader::state::State::after_symmetry` meets its contract: the words stand in the site or the macro.
-use borrow.Author.Needs.{needs}
 use Rattle.reader.proofs.After.{after-symmetry}
 use Rattle.reader.proofs.state.State.after_symmetry.Statement.{statement}
 use Rattle.reader.proofs.state.State.after_symmetry.Tie as tie
@@ -8,8 +7,8 @@ pub after-symmetry-spec : {M : Type 1} → statement M
 after-symmetry-spec =
     tie.close
     (tie.spec
-    (λ c κs. search needs)
-    (λ c κs. search needs)
-    (λ c κs. search needs)
+    (λ c κs. tt)
+    (λ c κs. tt)
+    (λ c κs. tt)
     (λ c. let m = c .before .before .moved .ensures in let a = c .before .before .before .args in
     (rw m, λ s k b. rw (m, c .before .at .ensures) (after-symmetry s (a .self) (a .next) (a .r) (c .is-site .result) (c .is-site .ensures) k b))))

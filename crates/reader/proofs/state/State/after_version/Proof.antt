@@ -1,5 +1,4 @@
 -- `reader::state::State::after_version` meets its contract: only the version changes.
-use borrow.Author.Needs.{needs}
 use Rattle.grammar.specs.Turns.{without}
 use Rattle.reader.specs.Stepped.{moveOf}
 use Rattle.reader.proofs.state.State.after_version.Statement.{statement}
@@ -10,6 +9,6 @@ unfolding moveOf without
 after-version-spec =
     tie.close
     (tie.spec
-    (λ c κs. search needs)
-    (λ c κs. search needs)
+    (λ c κs. tt)
+    (λ c κs. tt)
     (λ c. (rw (c .before .stayed .ensures), λ s k b. simp (c .before .stayed .ensures, c .x .ensures, k, b))))

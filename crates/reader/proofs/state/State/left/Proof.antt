@@ -1,5 +1,4 @@
 -- `reader::state::State::left` meets its contract: the block is the one around the innermost.
-use borrow.Author.Needs.{needs}
 use Rattle.reader.proofs.state.State.left.Statement.{statement}
 use Rattle.reader.proofs.state.State.left.Tie as tie
 
@@ -7,6 +6,6 @@ pub left-spec : {M : Type 1} → statement M
 left-spec =
     tie.close
     (tie.spec
-    (λ c κs. search needs)
-    (λ c κs. search needs)
+    (λ c κs. tt)
+    (λ c κs. tt)
     (λ c. rw (c .moved .ensures, c .before .outer-block .ensures)))
