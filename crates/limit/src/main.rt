@@ -1,7 +1,8 @@
-// Screens texts at the length limit, which no vector on a line can be: spaces of one byte more than is read and of just as many,
-// then both again with a last byte that is not ASCII. Each answer is printed as refusal, place and line; a text that may be read
-// has three zeros.
+// Screens and reads texts at the length limit, which no vector on a line can be: spaces of one byte more than is read and of just
+// as many, then both again with a last byte that is not ASCII. Each answer is printed as refusal, place and line; of the screen a
+// text that may be read has three zeros.
 use lexer::Screened;
+use reader::reading;
 
 fn main() {
     let mut text = [32u8; 16777217];
@@ -17,10 +18,17 @@ fn spaces(text: &mut [u8]) {
 }
 
 fn both(text: &[u8]) {
-    say(lexer::screen(text));
+    one(text);
     if 0 < text.len() {
-        say(lexer::screen(&text[1..]));
+        one(&text[1..]);
     }
+}
+
+fn one(text: &[u8]) {
+    say(lexer::screen(text));
+    let mut nothing = [0u8; 0];
+    let a = reading::read(text, &mut nothing);
+    numbers(a.number as u64, a.place as u64, a.line as u64);
 }
 
 fn say(answer: Screened) {

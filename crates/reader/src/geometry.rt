@@ -2,10 +2,9 @@
 ghost use mathlib.Core.Path.{_≡_};
 ghost use mathlib.Core.List.{[], _∷_};
 ghost use Prim.Native.Nat.{ℕ};
-ghost use Rattle.grammar.specs.Engine.{blank};
+ghost use Rattle.grammar.specs.Engine.{blank, some, Frame, items};
 ghost use Rattle.record.specs.Kinds.{RECT, POLYGON, PATH, POINT, VIA};
 ghost use Rattle.grammar.specs.Grammar.{name, x, y, semi, first, noName, stay, parts, counted};
-ghost use Rattle.grammar.specs.Engine.{some, Frame, items};
 ghost use Rattle.reader.specs.Code.{aheadOf};
 ghost use Rattle.reader.specs.Open.{points};
 ghost use Rattle.reader.specs.Stepped.{asStep, rowStep, stepIn, filedStep};

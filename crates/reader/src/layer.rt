@@ -1,12 +1,10 @@
 // The options and the statements of a layer.
 ghost use mathlib.Core.Path.{_≡_};
-ghost use mathlib.Core.List.{[], _∷_};
+ghost use mathlib.Core.List.{[], _∷_, List};
 ghost use Prim.Native.Nat.{ℕ};
-ghost use mathlib.Core.List.{List};
-ghost use Rattle.grammar.specs.Engine.{blank};
+ghost use Rattle.grammar.specs.Engine.{blank, some, Frame, items};
 ghost use Rattle.record.specs.Kinds.{LAYER, LAYER-OPTION, WIDTH, RECT, POLYGON, PATH, POINT, EXCEPTPGNET, SPACING, DESIGNRULEWIDTH};
 ghost use Rattle.grammar.specs.Grammar.{Options, Layer, Rect, Polygon, Path, x, semi, first, code, noName, stay, enter};
-ghost use Rattle.grammar.specs.Engine.{some, Frame, items};
 ghost use Rattle.grammar.specs.Table.{body};
 ghost use Rattle.reader.specs.Code.{aheadOf};
 ghost use Rattle.reader.specs.Stepped.{asStep, rowStep, stepIn, filedStep};
@@ -98,7 +96,7 @@ pub fn parse_layer_geometries(text: &[u8], held: Token, owner: usize) -> Step
 }
 
 // WIDTH and its number.
-pub fn width(text: &[u8], held: Token, owner: usize) -> Step
+fn width(text: &[u8], held: Token, owner: usize) -> Step
     ensures { λ r. ⌜ ((f : Frame ℕ) → f .at ≡ some owner → asStep (now (text .entry)) r ≡ rowStep (now (text .entry)) f held WIDTH (x ∷ semi ∷ []) stay) ⌝ }
 {
     let a = statement::parse_width(text, held);
@@ -124,7 +122,7 @@ fn rect(text: &[u8], held: Token, owner: usize) -> Step
 }
 
 // POLYGON, whose points follow.
-pub fn polygon(text: &[u8], held: Token, owner: usize) -> Step
+fn polygon(text: &[u8], held: Token, owner: usize) -> Step
     ensures { λ r. ⌜ ((f : Frame ℕ) → f .at ≡ some owner → asStep (now (text .entry)) r ≡ rowStep (now (text .entry)) f held POLYGON [] (enter Polygon (POINT ∷ POINT ∷ POINT ∷ []))) ⌝ }
 {
     let a = take::next_token(text, held);
@@ -135,7 +133,7 @@ pub fn polygon(text: &[u8], held: Token, owner: usize) -> Step
 }
 
 // PATH, whose points follow.
-pub fn path(text: &[u8], held: Token, owner: usize) -> Step
+fn path(text: &[u8], held: Token, owner: usize) -> Step
     ensures { λ r. ⌜ ((f : Frame ℕ) → f .at ≡ some owner → asStep (now (text .entry)) r ≡ rowStep (now (text .entry)) f held PATH [] (enter Path (POINT ∷ POINT ∷ []))) ⌝ }
 {
     let a = take::next_token(text, held);

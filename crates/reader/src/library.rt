@@ -4,14 +4,12 @@ ghost use mathlib.Core.List.{[], _∷_};
 ghost use Prim.Native.Nat.{ℕ};
 ghost use mathlib.Core.Bool.{cond};
 ghost use lib.Dec.{leb};
-ghost use Rattle.grammar.specs.Engine.{blank};
-ghost use Rattle.reader.specs.Code.{afterWord};
+ghost use Rattle.grammar.specs.Engine.{blank, none, Frame};
+ghost use Rattle.reader.specs.Code.{afterWord, aheadOf};
 ghost use Rattle.grammar.specs.Turns as T;
 ghost use Rattle.record.specs.Kinds.{VERSION, BUSBITCHARS, DIVIDERCHAR, NAMESCASESENSITIVE, NOWIREEXTENSIONATPIN, UNITS, SITE, SITE-CLASS, SIZE, MACRO};
 ghost use Rattle.grammar.specs.Grammar.{Library, Units, Site, Macro, key, name, x, semi, value, string, among, stay, enter, named, version};
-ghost use Rattle.grammar.specs.Engine.{none, Frame};
 ghost use Rattle.grammar.specs.Table.{versions, body};
-ghost use Rattle.reader.specs.Code.{aheadOf};
 ghost use Rattle.reader.specs.Stepped.{asStep, rowStep, closeStep, stepIn, filedStep};
 ghost use Rattle.grammar.specs.Turns.{given};
 use crate::shared;
@@ -51,7 +49,7 @@ pub fn parse_lib(text: &[u8], held: Token, version: u64) -> Step
 }
 
 // VERSION, whose number is the version from here on.
-pub fn lib_version(text: &[u8], held: Token) -> Step
+fn lib_version(text: &[u8], held: Token) -> Step
     ensures { λ r. ⌜ ((f : Frame ℕ) → f .at ≡ none → asStep (now (text .entry)) r ≡ rowStep (now (text .entry)) f held VERSION (x ∷ semi ∷ among versions ∷ []) version) ⌝ }
 {
     let a = statement::parse_version(text, held);
@@ -62,7 +60,7 @@ pub fn lib_version(text: &[u8], held: Token) -> Step
 }
 
 // Two bytes in quotes.
-pub fn parse_bus_bit_chars(text: &[u8], held: Token) -> Step
+fn parse_bus_bit_chars(text: &[u8], held: Token) -> Step
     ensures { λ r. ⌜ ((f : Frame ℕ) → f .at ≡ none → asStep (now (text .entry)) r ≡ rowStep (now (text .entry)) f held BUSBITCHARS (string 2 ∷ semi ∷ []) stay) ⌝ }
 {
     let a = take::next_token(text, held);
@@ -84,7 +82,7 @@ pub fn parse_bus_bit_chars(text: &[u8], held: Token) -> Step
 }
 
 // One byte in quotes.
-pub fn parse_divider_char(text: &[u8], held: Token) -> Step
+fn parse_divider_char(text: &[u8], held: Token) -> Step
     ensures { λ r. ⌜ ((f : Frame ℕ) → f .at ≡ none → asStep (now (text .entry)) r ≡ rowStep (now (text .entry)) f held DIVIDERCHAR (string 1 ∷ semi ∷ []) stay) ⌝ }
 {
     let a = take::next_token(text, held);
@@ -106,7 +104,7 @@ pub fn parse_divider_char(text: &[u8], held: Token) -> Step
 }
 
 // NOWIREEXTENSIONATPIN, on or off.
-pub fn no_wire_extension_at_pin(text: &[u8], held: Token) -> Step
+fn no_wire_extension_at_pin(text: &[u8], held: Token) -> Step
     ensures { λ r. ⌜ ((f : Frame ℕ) → f .at ≡ none → asStep (now (text .entry)) r ≡ rowStep (now (text .entry)) f held NOWIREEXTENSIONATPIN (value ∷ semi ∷ []) stay) ⌝ }
 {
     let a = statement::parse_value(text, held, kind::NOWIREEXTENSIONATPIN);
@@ -117,7 +115,7 @@ pub fn no_wire_extension_at_pin(text: &[u8], held: Token) -> Step
 }
 
 // NAMESCASESENSITIVE, on or off, up to version 5.4.
-pub fn names_case_sensitive(text: &[u8], held: Token, version: u64) -> Step
+fn names_case_sensitive(text: &[u8], held: Token, version: u64) -> Step
     ensures { λ r. ⌜ ((f : Frame ℕ) → f .at ≡ none → asStep (now (text .entry)) r ≡ filedStep (cond (leb version 5400000) (given stay (afterWord (value ∷ semi ∷ []) f (blank NAMESCASESENSITIVE f (aheadOf (now (text .entry)) held)) (aheadOf (now (text .entry)) held))) (T.halts 5 (record { place = held .stop; line = held .line })))) ⌝ }
 {
     if 5400000 < version {
@@ -131,7 +129,7 @@ pub fn names_case_sensitive(text: &[u8], held: Token, version: u64) -> Step
 }
 
 // UNITS, whose statements follow.
-pub fn units(text: &[u8], held: Token) -> Step
+fn units(text: &[u8], held: Token) -> Step
     ensures { λ r. ⌜ ((f : Frame ℕ) → f .at ≡ none → asStep (now (text .entry)) r ≡ rowStep (now (text .entry)) f held UNITS [] (enter Units [])) ⌝ }
 {
     let a = take::next_token(text, held);
@@ -142,7 +140,7 @@ pub fn units(text: &[u8], held: Token) -> Step
 }
 
 // SITE and its name.
-pub fn site(text: &[u8], held: Token) -> Step
+fn site(text: &[u8], held: Token) -> Step
     ensures { λ r. ⌜ ((f : Frame ℕ) → f .at ≡ none → asStep (now (text .entry)) r ≡ rowStep (now (text .entry)) f held SITE (name ∷ []) (named Site (SITE-CLASS ∷ SIZE ∷ []))) ⌝ }
 {
     let a = take::next_token(text, held);
@@ -158,7 +156,7 @@ pub fn site(text: &[u8], held: Token) -> Step
 }
 
 // MACRO and its name.
-pub fn lib_macro(text: &[u8], held: Token) -> Step
+fn lib_macro(text: &[u8], held: Token) -> Step
     ensures { λ r. ⌜ ((f : Frame ℕ) → f .at ≡ none → asStep (now (text .entry)) r ≡ rowStep (now (text .entry)) f held MACRO (name ∷ []) (named Macro [])) ⌝ }
 {
     let a = take::next_token(text, held);
@@ -174,7 +172,7 @@ pub fn lib_macro(text: &[u8], held: Token) -> Step
 }
 
 // END LIBRARY.
-pub fn end_library(text: &[u8], held: Token) -> Step
+fn end_library(text: &[u8], held: Token) -> Step
     ensures { λ r. ⌜ ((f : Frame ℕ) → asStep (now (text .entry)) r ≡ closeStep (now (text .entry)) f held (key "LIBRARY" ∷ [])) ⌝ }
 {
     let a = take::next_token(text, held);

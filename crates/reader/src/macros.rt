@@ -1,18 +1,15 @@
 // The statements of a macro.
 ghost use mathlib.Core.Path.{_≡_};
-ghost use mathlib.Core.List.{[], _∷_};
+ghost use mathlib.Core.List.{[], _∷_, List};
 ghost use Prim.Native.Nat.{ℕ};
 ghost use mathlib.Core.Bool.{cond};
-ghost use mathlib.Core.List.{List};
 ghost use lib.Dec.{leb};
-ghost use Rattle.grammar.specs.Engine.{blank, setName, nameOf};
-ghost use Rattle.reader.specs.Code.{tokOf};
+ghost use Rattle.grammar.specs.Engine.{blank, setName, nameOf, some, Frame, items};
+ghost use Rattle.reader.specs.Code.{tokOf, aheadOf};
 ghost use Rattle.grammar.specs.Turns as T;
 ghost use Rattle.record.specs.Kinds.{SITE, MACRO-CLASS, MACRO-SITE, FOREIGN, ORIGIN, PIN, OBS, WITH-POINT};
 ghost use Rattle.grammar.specs.Grammar.{Macro, Pin, Obs, name, x, y, semi, first, second, code, ifMore, noName, stay, enter, named, version};
-ghost use Rattle.grammar.specs.Engine.{some, Frame, items};
 ghost use Rattle.grammar.specs.Table.{body};
-ghost use Rattle.reader.specs.Code.{aheadOf};
 ghost use Rattle.reader.specs.Open.{nameIn};
 ghost use Rattle.reader.specs.Stepped.{asStep, rowStep, stepIn, filedStep};
 ghost use Rattle.grammar.specs.Turns.{given};
@@ -60,7 +57,7 @@ pub fn parse_macro(
 }
 
 // The CLASS of a macro.
-pub fn class(text: &[u8], held: Token, owner: usize) -> Step
+fn class(text: &[u8], held: Token, owner: usize) -> Step
     ensures { λ r. ⌜ ((f : Frame ℕ) → f .at ≡ some owner → asStep (now (text .entry)) r ≡ rowStep (now (text .entry)) f held MACRO-CLASS (first ∷ second ∷ semi ∷ []) stay) ⌝ }
 {
     let a = words::parse_macro_class(text, held);
@@ -145,7 +142,7 @@ fn foreign_at(text: &[u8], held: Token, owner: usize, cell: Token, more: Token) 
 }
 
 // The ORIGIN of a macro.
-pub fn origin(text: &[u8], held: Token, owner: usize) -> Step
+fn origin(text: &[u8], held: Token, owner: usize) -> Step
     ensures { λ r. ⌜ ((f : Frame ℕ) → f .at ≡ some owner → asStep (now (text .entry)) r ≡ rowStep (now (text .entry)) f held ORIGIN (x ∷ y ∷ semi ∷ []) stay) ⌝ }
 {
     let a = statement::parse_origin(text, held);
@@ -166,7 +163,7 @@ fn source(held: Token, version: u64) -> Step
 }
 
 // PIN and its name.
-pub fn pin(text: &[u8], held: Token, owner: usize) -> Step
+fn pin(text: &[u8], held: Token, owner: usize) -> Step
     ensures { λ r. ⌜ ((f : Frame ℕ) → f .at ≡ some owner → asStep (now (text .entry)) r ≡ rowStep (now (text .entry)) f held PIN (name ∷ []) (named Pin [])) ⌝ }
 {
     let a = take::next_token(text, held);
@@ -182,7 +179,7 @@ pub fn pin(text: &[u8], held: Token, owner: usize) -> Step
 }
 
 // OBS, whose layers follow.
-pub fn obs(text: &[u8], held: Token, owner: usize) -> Step
+fn obs(text: &[u8], held: Token, owner: usize) -> Step
     ensures { λ r. ⌜ ((f : Frame ℕ) → f .at ≡ some owner → asStep (now (text .entry)) r ≡ rowStep (now (text .entry)) f held OBS [] (enter Obs [])) ⌝ }
 {
     let a = take::next_token(text, held);

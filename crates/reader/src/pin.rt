@@ -2,10 +2,9 @@
 ghost use mathlib.Core.Path.{_≡_};
 ghost use mathlib.Core.List.{[], _∷_};
 ghost use Prim.Native.Nat.{ℕ};
-ghost use Rattle.grammar.specs.Engine.{blank, setX, setCode};
+ghost use Rattle.grammar.specs.Engine.{blank, setX, setCode, some, Frame, items};
 ghost use Rattle.record.specs.Kinds.{DIRECTION, USE, SHAPE, ANTENNAMODEL, ANTENNA, PORT, LAYER};
 ghost use Rattle.grammar.specs.Grammar.{Pin, Port, key, name, x, semi, value, firstKey, second, code, ifMore, stay, enter};
-ghost use Rattle.grammar.specs.Engine.{some, Frame, items};
 ghost use Rattle.grammar.specs.Table.{body};
 ghost use Rattle.reader.specs.Code.{aheadOf};
 ghost use Rattle.reader.specs.Open.{nameIn};
@@ -60,7 +59,7 @@ pub fn parse_pin(text: &[u8], held: Token, owner: usize, title: usize, len: usiz
 }
 
 // The DIRECTION of a pin.
-pub fn direction(text: &[u8], held: Token, owner: usize) -> Step
+fn direction(text: &[u8], held: Token, owner: usize) -> Step
     ensures { λ r. ⌜ ((f : Frame ℕ) → f .at ≡ some owner → asStep (now (text .entry)) r ≡ rowStep (now (text .entry)) f held DIRECTION (firstKey ∷ second ∷ semi ∷ []) stay) ⌝ }
 {
     let a = words::parse_pin_direction(text, held);
@@ -71,7 +70,7 @@ pub fn direction(text: &[u8], held: Token, owner: usize) -> Step
 }
 
 // The USE of a pin.
-pub fn pin_use(text: &[u8], held: Token, owner: usize) -> Step
+fn pin_use(text: &[u8], held: Token, owner: usize) -> Step
     ensures { λ r. ⌜ ((f : Frame ℕ) → f .at ≡ some owner → asStep (now (text .entry)) r ≡ rowStep (now (text .entry)) f held USE (value ∷ semi ∷ []) stay) ⌝ }
 {
     let a = statement::parse_value(text, held, kind::USE);
@@ -82,7 +81,7 @@ pub fn pin_use(text: &[u8], held: Token, owner: usize) -> Step
 }
 
 // The SHAPE of a pin.
-pub fn shape(text: &[u8], held: Token, owner: usize) -> Step
+fn shape(text: &[u8], held: Token, owner: usize) -> Step
     ensures { λ r. ⌜ ((f : Frame ℕ) → f .at ≡ some owner → asStep (now (text .entry)) r ≡ rowStep (now (text .entry)) f held SHAPE (value ∷ semi ∷ []) stay) ⌝ }
 {
     let a = statement::parse_value(text, held, kind::SHAPE);
@@ -93,7 +92,7 @@ pub fn shape(text: &[u8], held: Token, owner: usize) -> Step
 }
 
 // The ANTENNAMODEL of a pin.
-pub fn antenna_model(text: &[u8], held: Token, owner: usize) -> Step
+fn antenna_model(text: &[u8], held: Token, owner: usize) -> Step
     ensures { λ r. ⌜ ((f : Frame ℕ) → f .at ≡ some owner → asStep (now (text .entry)) r ≡ rowStep (now (text .entry)) f held ANTENNAMODEL (value ∷ []) stay) ⌝ }
 {
     let a = statement::parse_antenna_model(text, held, kind::ANTENNAMODEL);
@@ -154,7 +153,7 @@ fn antenna_layer(text: &[u8], held: Token, owner: usize, code: u8, x: u64, more:
 }
 
 // PORT, whose layers follow.
-pub fn port(text: &[u8], held: Token, owner: usize) -> Step
+fn port(text: &[u8], held: Token, owner: usize) -> Step
     ensures { λ r. ⌜ ((f : Frame ℕ) → f .at ≡ some owner → asStep (now (text .entry)) r ≡ rowStep (now (text .entry)) f held PORT [] (enter Port [])) ⌝ }
 {
     let a = take::next_token(text, held);

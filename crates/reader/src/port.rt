@@ -35,7 +35,7 @@ pub fn parse_port(text: &[u8], held: Token, owner: usize) -> Step
 }
 
 // The CLASS of a port.
-pub fn class(text: &[u8], held: Token, owner: usize) -> Step
+fn class(text: &[u8], held: Token, owner: usize) -> Step
     ensures { λ r. ⌜ ((f : Frame ℕ) → f .at ≡ some owner → asStep (now (text .entry)) r ≡ rowStep (now (text .entry)) f held PORT-CLASS (value ∷ semi ∷ []) stay) ⌝ }
 {
     let a = statement::parse_value(text, held, kind::PORT_CLASS);

@@ -3,10 +3,9 @@ ghost use mathlib.Core.Path.{_≡_};
 ghost use mathlib.Core.List.{[], _∷_};
 ghost use Prim.Native.Nat.{ℕ};
 ghost use mathlib.Core.Bool.{not};
-ghost use Rattle.grammar.specs.Engine.{empty};
+ghost use Rattle.grammar.specs.Engine.{empty, some, Frame};
 ghost use Rattle.record.specs.Kinds.{SITE-CLASS, SYMMETRY};
 ghost use Rattle.grammar.specs.Grammar.{Site, Symmetry, own, semi, value, whole, stay};
-ghost use Rattle.grammar.specs.Engine.{some, Frame};
 ghost use Rattle.grammar.specs.Table.{body};
 ghost use Rattle.reader.specs.Open.{siteLacks, nameIn};
 ghost use Rattle.reader.specs.Stepped.{asStep, rowStep, closeStep, stepIn};
@@ -50,7 +49,7 @@ pub fn parse_site_def(
 }
 
 // The CLASS of a site.
-pub fn class(text: &[u8], held: Token, owner: usize) -> Step
+fn class(text: &[u8], held: Token, owner: usize) -> Step
     ensures { λ r. ⌜ ((f : Frame ℕ) → f .at ≡ some owner → asStep (now (text .entry)) r ≡ rowStep (now (text .entry)) f held SITE-CLASS (value ∷ semi ∷ []) stay) ⌝ }
 {
     let a = statement::parse_value(text, held, kind::SITE_CLASS);

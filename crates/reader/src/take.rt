@@ -4,8 +4,7 @@ ghost use mathlib.Core.Path.{_≡_};
 ghost use Prim.Native.Nat.{_-_};
 ghost use lib.ListN.{take, drop};
 ghost use Rattle.lexer.specs.Lex.{lexFrom};
-ghost use Rattle.grammar.specs.Tokens.{expect};
-ghost use Rattle.grammar.specs.Tokens.{take as taking};
+ghost use Rattle.grammar.specs.Tokens.{expect, take as taking};
 ghost use Rattle.grammar.specs.Engine.{get-name, get-key, expect-key, expect-keyword, expect-ident, parse-number, parse-enum};
 ghost use Rattle.reader.specs.Code.{complaint, aheadOf, heldNext, asTaken, asNumber, asWord, whyTaken};
 ghost use Rattle.reader.specs.Open.{nameIn};
@@ -174,7 +173,7 @@ pub fn expect_ident(text: &[u8], held: Token, title: usize, len: usize) -> Taken
 }
 
 // The name of so many bytes at a place, as far as the text goes.
-pub fn name_in(text: &[u8], start: usize, len: usize) -> &[u8]
+fn name_in(text: &[u8], start: usize, len: usize) -> &[u8]
     ensures { λ r. ⌜ now r ≡ nameIn (now (text .entry)) start len ⌝ }
 {
     if text.len() <= start {
@@ -187,7 +186,7 @@ pub fn name_in(text: &[u8], start: usize, len: usize) -> &[u8]
     &text[start..stop]
 }
 
-pub fn same_bytes(a: &[u8], b: &[u8]) -> bool
+fn same_bytes(a: &[u8], b: &[u8]) -> bool
     ensures { λ r. ⌜ r ≡ same (now (a .entry)) (now (b .entry)) ⌝ }
 {
     if a.len() != b.len() {

@@ -2,10 +2,9 @@
 ghost use mathlib.Core.Path.{_≡_};
 ghost use mathlib.Core.List.{[], _∷_};
 ghost use Prim.Native.Nat.{ℕ};
-ghost use Rattle.grammar.specs.Engine.{Draft, blank};
+ghost use Rattle.grammar.specs.Engine.{Draft, blank, some, Frame, items};
 ghost use Rattle.record.specs.Kinds.{UNITS, DATABASE};
 ghost use Rattle.grammar.specs.Grammar.{Units, keyword, x, semi, first, among, stay};
-ghost use Rattle.grammar.specs.Engine.{some, Frame, items};
 ghost use Rattle.grammar.specs.Table.{microns, body};
 ghost use Rattle.reader.specs.Code.{aheadOf};
 ghost use Rattle.reader.specs.Stepped.{asStep, stepIn, filedStep};
