@@ -1,10 +1,10 @@
 -- The records of a file by their index.
-use Prim.Native.Nat.{ℕ, _*_, _/_}
+use Prim.Native.Nat.{ℕ, zero, suc, _*_, _/_, _%_}
 use mathlib.Core.Bool.{Bool, cond}
-use mathlib.Core.List.{List}
+use mathlib.Core.List.{List, [], _∷_}
 use lib.ListN.{length, take, drop}
 use lib.Seq.{sets}
-use lib.Dec.{ltb}
+use lib.Dec.{eqb, ltb}
 use Rattle.record.specs.declared.Record.{Record}
 use Rattle.record.specs.Bytes.{encoded, decoded}
 use Rattle.file.specs.declared.Found.{Found}
@@ -13,6 +13,19 @@ use Rattle.file.specs.declared.Found.the-variants.{At, Past}
 -- the file has a whole record at the index
 abbrev pub hasRoom : List ℕ → ℕ → Bool
 hasRoom file index = ltb index (length file / 36)
+
+-- the bytes are whole records
+abbrev pub whole : List ℕ → Bool
+whole file = eqb (length file % 36) 0
+
+-- the n records from the front of a file on
+unfoldable pub front : ℕ → List ℕ → List Record
+front zero file = []
+front (suc n) file = decoded (take 36 file) ∷ front n (drop 36 file)
+
+-- the records that a file holds, in its order; bytes too few for a record count for nothing
+abbrev pub held : List ℕ → List Record
+held file = front (length file / 36) file
 
 -- the record at an index of a file
 unfoldable pub recordAt : List ℕ → ℕ → Found

@@ -22,5 +22,17 @@ noToken = 3
 abbrev pub recordRoom : ℕ
 recordRoom = 11
 
+-- the record bytes are not a multiple of 36; place: their length
+abbrev pub notWhole : ℕ
+notWhole = 13
+
+-- a record is foreign, or equal to an earlier one; place: its index
+abbrev pub wrongRecord : ℕ
+wrongRecord = 14
+
+-- a record is lacking; place: its `at`
+abbrev pub lacking : ℕ
+lacking = 15
+
 abbrev pub refused : ℕ → ℕ → ℕ → Refusal
 refused number place line = record { number = number; place = place; line = line }

@@ -1,7 +1,7 @@
 // What every call says when it cannot use what it was given: a number, a place and a line, as the table
 // "Numbers that come back" of the rules has them.
 ghost use mathlib.Core.Path.{_≡_};
-ghost use Rattle.refusal.specs.Table.{refused, done, tooLong, notAscii, noToken, recordRoom};
+ghost use Rattle.refusal.specs.Table.{refused, done, tooLong, notAscii, noToken, recordRoom, notWhole, wrongRecord, lacking};
 
 pub struct Refusal {
     pub number: u8,
@@ -19,6 +19,12 @@ impl Refusal {
     pub const NO_TOKEN: u8 = 3;
 
     pub const RECORD_ROOM: u8 = 11;
+
+    pub const NOT_WHOLE: u8 = 13;
+
+    pub const WRONG_RECORD: u8 = 14;
+
+    pub const LACKING: u8 = 15;
 
     // No refusal: the call is done, with so many records or bytes.
     pub fn done(count: usize) -> Self
@@ -71,6 +77,39 @@ impl Refusal {
         Self {
             number: Self::RECORD_ROOM,
             place: needed,
+            line: 0,
+        }
+    }
+
+    // The record bytes, so many, are no whole number of records.
+    pub fn not_whole(length: usize) -> Self
+        ensures { λ r. ⌜ r ≡ refused notWhole length 0 ⌝ }
+    {
+        Self {
+            number: Self::NOT_WHOLE,
+            place: length,
+            line: 0,
+        }
+    }
+
+    // The record at the index is foreign, or equal to an earlier one.
+    pub fn wrong_record(index: usize) -> Self
+        ensures { λ r. ⌜ r ≡ refused wrongRecord index 0 ⌝ }
+    {
+        Self {
+            number: Self::WRONG_RECORD,
+            place: index,
+            line: 0,
+        }
+    }
+
+    // The record whose statement starts there is lacking.
+    pub fn lacking(start: usize) -> Self
+        ensures { λ r. ⌜ r ≡ refused lacking start 0 ⌝ }
+    {
+        Self {
+            number: Self::LACKING,
+            place: start,
             line: 0,
         }
     }
