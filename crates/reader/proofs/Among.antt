@@ -7,12 +7,12 @@ use mathlib.Core.List.{List, [], _∷_}
 use borrow.Author.Tests.{eqb-true}
 use denote.Enum.Declared.{tagOf}
 use types.Run.{OneOf}
-use lib.Dec.{eqb}
+use lib.Dec.{leb, eqb}
 use lib.ListN.{getD}
 use Rattle.word.proofs.Words.{both}
 use Rattle.reader.specs.declared.state.Block.{Block}
 use Rattle.reader.specs.declared.state.Block.the-variants as B
-use Rattle.reader.specs.Open.{numberOf, oneOf}
+use Rattle.reader.specs.Open.{numberOf, oneOf, within}
 use Rattle.reader.proofs.state.Block.{the-type}
 
 abbrev blocks : List Block
@@ -62,6 +62,9 @@ one-of-two b c d h = go (first-or b c (d ∷ []) h)
     go (inl e) = inl e
     go (inr e) = inr (the-one b d e)
 
+pub the-library : (b : Block) → eqb (numberOf b) 0 ≡ true → b ≡ B.Library
+the-library b h = sym (of-number b) ∙ ap numbered (eqb-true (numberOf b) 0 h)
+
 -- the variants are numbered in their order
 pub tag-number : (b : Block) → tagOf the-type b ≡ numberOf b
 tag-number B.Library = refl
@@ -94,3 +97,25 @@ pub among-others : (m k : ℕ) (ks : List ℕ) (n : ℕ) → absent m (k ∷ ks)
 among-others m k [] n a e = not-that k m n (both (not (eqb k m)) true a .0) e
 among-others m k (j ∷ js) n a (inl e) = not-that k m n (both (not (eqb k m)) (absent m (j ∷ js)) a .0) e
 among-others m k (j ∷ js) n a (inr h) = among-others m j js n (both (not (eqb k m)) (absent m (j ∷ js)) a .1) h
+
+-- what is among numbers from 6 on, and among numbers below 6
+abbrev allBool : (ℕ → Bool) → List ℕ → Bool
+allBool p [] = true
+allBool p (k ∷ ks) = p k && allBool p ks
+
+among-all : (p : ℕ → Bool) (k : ℕ) (ks : List ℕ) (n : ℕ) → allBool p (k ∷ ks) ≡ true → OneOf (k ∷ ks) n → p n ≡ true
+among-all p k [] n a e = rw e (both (p k) true a .0)
+among-all p k (j ∷ js) n a (inl e) = rw e (both (p k) (allBool p (j ∷ js)) a .0)
+among-all p k (j ∷ js) n a (inr h) = among-all p j js n (both (p k) (allBool p (j ∷ js)) a .1) h
+
+pub inner-tag : (b : Block) → OneOf (6 ∷ 7 ∷ 8 ∷ 9 ∷ 10 ∷ 11 ∷ 12 ∷ []) (tagOf the-type b) → within b ≡ true
+unfolding within
+inner-tag b h = rw (← (tag-number b)) (among-all (leb 6) 6 (7 ∷ 8 ∷ 9 ∷ 10 ∷ 11 ∷ 12 ∷ []) _ refl h)
+
+pub outer-tag : (b : Block) → OneOf (0 ∷ 1 ∷ 2 ∷ 3 ∷ 4 ∷ 5 ∷ []) (tagOf the-type b) → within b ≡ false
+unfolding within
+outer-tag b h = not-true (leb 6 (numberOf b)) (rw (← (tag-number b)) (among-all (λ n. not (leb 6 n)) 0 (1 ∷ 2 ∷ 3 ∷ 4 ∷ 5 ∷ []) _ refl h))
+  where
+    not-true : (c : Bool) → not c ≡ true → c ≡ false
+    not-true true e = absurd (false≢true e)
+    not-true false e = refl

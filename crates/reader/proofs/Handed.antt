@@ -19,21 +19,24 @@ use Rattle.lexer.specs.declared.Lexed.the-variants.{Found, End, Bad}
 use Rattle.lexer.specs.declared.Screened.{Screened}
 use Rattle.lexer.specs.declared.Screened.the-variants.{Clear, Refused}
 use Rattle.lexer.specs.Lex.{from, rest, lexFrom}
-use Rattle.lexer.specs.Screen.{screened}
+use Rattle.lexer.specs.Screen.{limit, screened}
+use Rattle.lexer.proofs.Cleared.{clear-short}
 use Rattle.lexer.proofs.Whole.{unrolls}
 use Rattle.lexer.proofs.Kinded.{kinded}
 use Rattle.reader.specs.declared.state.State.{State}
 use Rattle.reader.specs.declared.take.Taken.{Taken}
 use Rattle.reader.specs.declared.take.Taken.the-variants as T
-use Rattle.reader.specs.declared.reading.Counted.{Counted}
-use Rattle.reader.specs.declared.reading.Counted.the-variants as C
+use Rattle.reader.specs.declared.pass.Begun.the-variants as B
+use Rattle.reader.specs.declared.pass.Passed.{Passed}
+use Rattle.reader.specs.declared.pass.Passed.the-variants as P
 use Rattle.grammar.specs.Reading.{tok, ahead, start, readAhead, Reading, records, refusal-of, told, reading}
 use Rattle.reader.specs.Code.{restOf, aheadOf, endOf, heldNext}
 use Rattle.reader.specs.Open.{stateOf}
 use Rattle.reader.specs.Answered.{encodedAll, room, answered, filled}
-use Rattle.reader.specs.Passed.{readFrom, countOf, storedAll}
+use Rattle.reader.specs.Passed.{readFrom, storedAll, Begins, Further, Passes}
 use Rattle.reader.proofs.Ahead.{end-bytes}
 use Rattle.grammar.proofs.Falls.{readOn}
+use Rattle.reader.proofs.Tally.{few-ahead}
 
 -- THE RECORDS IN THE FILE
 
@@ -58,49 +61,49 @@ laid-all (r ∷ rs) n file h =
 abbrev pub Handed : List ℕ → Reading → Refusal → List ℕ → Type 0
 Handed file o r exit = (r ≡ answered (room file) o) × (exit ≡ filled file o)
 
-clash : (n : ℕ) (f : Refusal) → _≡_ {A = Counted} (C.Records n) (C.Refused f) → ⊥
-clash n f e = let z : _≡_ {A = ℕ} 0 1 = cc in omega arith
+clash : (rs : List Record) (f : Refusal) → records rs ≡ refusal-of f → ⊥
+clash rs f e = let z : _≡_ {A = ℕ} 0 1 = cc in omega arith
 
-same-count : (n m : ℕ) → _≡_ {A = Counted} (C.Records n) (C.Records m) → n ≡ m
-same-count n m e = cc
+same-records : (rs qs : List Record) → records rs ≡ records qs → rs ≡ qs
+same-records rs qs e = cc
 
-same-refusal : (f g : Refusal) → _≡_ {A = Counted} (C.Refused f) (C.Refused g) → f ≡ g
-same-refusal f g e = cc
+pub by-refusal : {o : Reading} (file : List ℕ) (f : Refusal) → o ≡ refusal-of f → Handed file o f file
+by-refusal file f e = (rw e, rw e)
 
-module _ (file : List ℕ) where
-  pub by-refusal : {o : Reading} (f : Refusal) → o ≡ refusal-of f → Handed file o f file
-  by-refusal f e = (rw e, rw e)
+-- WHAT A PASS OVER ALL TURNS SHOWS
 
-  count-refused : (o : Reading) (f : Refusal) → C.Refused f ≡ countOf o → Handed file o f file
-  count-refused (records rs) f e = absurd (clash (length rs) f (sym e))
-  count-refused (refusal-of g) f e = (same-refusal f g e, refl)
+abbrev all : ℕ
+all = 18446744073709551615
 
-  no-room : (o : Reading) (n : ℕ) → C.Records n ≡ countOf o → room file < n → Handed file o (refusal recordRoom n 0) file
-  no-room (records rs) n e h =
-      let z = same-count n (length rs) e in
-      let b = lt-leb (length rs) (room file) (omega arith) in
-      (rw (b, z), rw b)
-  no-room (refusal-of g) n e h = absurd (clash n g e)
+module _ (s : List ℕ) (l : length s ≤ limit) (st : State) where
+  -- there are fewer tokens than that
+  pub never-on : (file out : List ℕ) (to : State) → Further s st file all to out → ⊥
+  never-on file out to f = omega (arith, f .fewer, few-ahead s (st .held), l)
 
-  enough : (o : Reading) (n : ℕ) (exit : List ℕ) → C.Records n ≡ countOf o → n ≤ room file → ((rs : List Record) → o ≡ records rs → exit ≡ storedAll 0 rs file)
-      → Handed file o (refusal done n 0) exit
-  enough (records rs) n exit e h f =
-      let z = same-count n (length rs) e in
-      let b = le-leb (length rs) (room file) (omega arith) in
-      (rw (b, z), rw b (f rs refl ∙ laid-all rs 0 file (omega arith)))
-  enough (refusal-of g) n exit e h f = absurd (clash n g e)
+  stored-by : (file out : List ℕ) (x : Passed) → Passes s st all file out x → (rs : List Record) → readFrom s st ≡ records rs → out ≡ storedAll 0 rs file
+  stored-by file out (P.Over n) p rs e = p .4 ∙ ap (λ q. storedAll 0 q file) (same-records (p .0) rs (sym (p .1) ∙ e))
+  stored-by file out (P.On to) p rs e = absurd (never-on file out to p)
+  stored-by file out (P.Refused r) p rs e = absurd (clash rs r (sym e ∙ p))
 
-  -- the same where r is what `pass` counted in the reading p
-  module _ {o p : Reading} (e : o ≡ p) (r : Counted) (c : r ≡ countOf p) where
-    pub by-count : (f : Refusal) → r ≡ C.Refused f → Handed file o f file
-    by-count f h = rw e (count-refused p f (sym h ∙ c))
+  -- the first pass counted n
+  module _ (file : List ℕ) (x : Passed) (nowhere out : List ℕ) (p : Passes s st all nowhere out x) where
+    pub by-stop : (f : Refusal) → x ≡ P.Refused f → Handed file (readFrom s st) f file
+    by-stop f h = by-refusal file f (rw h at p)
 
-    pub by-room : (n : ℕ) → r ≡ C.Records n → room file < n → Handed file o (refusal recordRoom n 0) file
-    by-room n h k = rw e (no-room p n (sym h ∙ c) k)
+    pub by-on : (to : State) → x ≡ P.On to → ⊥
+    by-on to h = never-on nowhere out to (rw h at p)
 
-    pub by-filling : (n : ℕ) → r ≡ C.Records n → n ≤ room file → (exit : List ℕ) → ((rs : List Record) → p ≡ records rs → exit ≡ storedAll 0 rs file)
-        → Handed file o (refusal done n 0) exit
-    by-filling n h k exit f = rw e (enough p n exit (sym h ∙ c) k f)
+    pub by-room : (n : ℕ) → x ≡ P.Over n → room file < n → Handed file (readFrom s st) (refusal recordRoom n 0) file
+    by-room n h k =
+        let o : Passes s st all nowhere out (P.Over n) = rw h at p in
+        let b = lt-leb (length (o .0)) (room file) (omega (arith, o .2)) in
+        rw (o .1) (rw (b, o .2), rw b)
+
+    pub by-filling : (n : ℕ) → x ≡ P.Over n → n ≤ room file → (exit : List ℕ) (y : Passed) → Passes s st all file exit y → Handed file (readFrom s st) (refusal done n 0) exit
+    by-filling n h k exit y q =
+        let o : Passes s st all nowhere out (P.Over n) = rw h at p in
+        let b = le-leb (length (o .0)) (room file) (omega (arith, o .2)) in
+        rw (o .1) (rw (b, o .2), rw b (stored-by file exit y q (o .0) (o .1) ∙ laid-all (o .0) 0 file (omega (arith, o .2))))
 
 -- THE START
 
@@ -141,8 +144,11 @@ module _ (s : List ℕ) where
 
   -- a clear text is read from its first token on, or is refused for its first byte
   module _ (x : Screened) (v : x ≡ screened s) (c : x ≡ Clear) (y : Taken) (q : y ≡ heldNext s (lexFrom s 0 1)) where
-    pub begins : (t : Token) → y ≡ T.Next t → (o : State) → (o .held ≡ t) × ((l : List ℕ) → stateOf l o ≡ start) → reading s ≡ readFrom s o
-    begins t e o h = cleared (sym c ∙ v) ∙ (found (lexFrom s 0 1) refl t (sym e ∙ q) ∙ rw (← h .0, ← h .1 s))
+    pub begins : (t : Token) → y ≡ T.Next t → (o : State) → (o .held ≡ t) × ((l : List ℕ) → stateOf l o ≡ start) → Begins s (B.At o)
+    begins t e o h = (
+      cleared (sym c ∙ v) ∙ (found (lexFrom s 0 1) refl t (sym e ∙ q) ∙ rw (← h .0, ← h .1 s)),
+      clear-short s (sym v ∙ c),
+    )
 
     pub fails : (f : Refusal) → y ≡ T.Refused f → reading s ≡ refusal-of f
     fails f e = cleared (sym c ∙ v) ∙ lost (lexFrom s 0 1) refl f (sym e ∙ q)

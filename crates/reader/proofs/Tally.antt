@@ -1,11 +1,11 @@
--- A pass over the turns keeps its total: what it has done, with the reading from its state on, comes to the same at every turn.
-use Prim.Native.Nat.{ℕ, suc, _+_, _≤_, _<_}
+-- A pass over the turns keeps what is read in all: the records so far and the reading from its state on come to the same at every turn.
+use Prim.Native.Nat.{ℕ, suc, _+_, _*_, _≤_, _<_}
 use mathlib.Core.Path.{_≡_, refl, sym, ap, _∙_}
 use mathlib.Core.Bool.{Bool, true, false, cond}
-use mathlib.Core.List.{List, [], _∷_, map}
+use mathlib.Core.List.{List, [], _∷_, _++_, map, append-assoc, append-nil}
 use native.Mathlib.Omega.{arith}
 use lib.Dec.{eqb}
-use lib.ListN.{length, length-map}
+use lib.ListN.{length, length-map, length-append}
 use Rattle.refusal.specs.declared.Refusal.{Refusal}
 use Rattle.refusal.specs.Table.{refused as refusal}
 use Rattle.record.specs.declared.Record.{Record}
@@ -14,10 +14,10 @@ use Rattle.lexer.specs.declared.Token.{Token}
 use Rattle.lexer.specs.Lex.{from}
 use Rattle.lexer.proofs.Whole.{few}
 use Rattle.reader.specs.declared.state.State.{State}
-use Rattle.reader.specs.declared.turn.Turn.{Turn}
-use Rattle.reader.specs.declared.turn.Turn.the-variants as U
-use Rattle.reader.specs.declared.reading.Counted.{Counted}
-use Rattle.reader.specs.declared.reading.Counted.the-variants as C
+use Rattle.reader.specs.declared.state.Block.the-variants as B
+use Rattle.reader.specs.declared.step.Step.{Step}
+use Rattle.reader.specs.declared.step.Step.the-variants as S
+use Rattle.reader.specs.declared.pass.Passed.the-variants as P
 use Rattle.grammar.specs.Tokens.{end}
 use Rattle.grammar.specs.Table.{body}
 use Rattle.grammar.specs.Engine.{Rec}
@@ -25,20 +25,11 @@ use Rattle.grammar.specs.Turns as T
 use Rattle.grammar.specs.Turns.{Outcome, read, stopped, more}
 use Rattle.grammar.specs.Reading.{Mark, tok, filed, Reading, records, refusal-of, told}
 use Rattle.reader.specs.Code.{restOf, aheadOf}
-use Rattle.reader.specs.Open.{framesOf, stateOf}
-use Rattle.reader.specs.Stepped.{asTurn, filedTurn, turnIn}
-use Rattle.reader.specs.Passed.{readFrom, countOf, storedAll}
+use Rattle.reader.specs.Open.{around, framesOf, stateOf, movedTo, firstOf, numberOf, fits}
+use Rattle.reader.specs.Stepped.{filedTurn, afterIn}
+use Rattle.reader.specs.Passed.{readFrom, follow, storedAll, Further, Passes}
 use Rattle.grammar.proofs.Falls.{Less, turn-less, readOn, after, unrolls}
-
--- what a pass comes to: the count with the file, or the refusal
-pub data Total : Type 0 where
-  all : ℕ → List ℕ → Total
-  none : Refusal → Total
-
--- the total of a pass that has come to the index n of the file, and has the reading still before it
-abbrev pub total : ℕ → List ℕ → Reading → Total
-total n file (records rs) = all (n + length rs) (storedAll n rs file)
-total n file (refusal-of r) = none r
+use Rattle.reader.proofs.Turning.{Makes, turnOf, gives-turn, ends-turn, last-turn, goes-turn, back-layer, back-turn, refused-turn, outer-other}
 
 -- there are at most as many tokens ahead as bytes, and one more
 pub few-ahead : (s : List ℕ) (t : Token) → length (restOf s t) ≤ suc (length s)
@@ -77,76 +68,114 @@ less-filed n (T.moved s a) h = h
 less-filed n T.done h = h
 less-filed n (T.halted k p) h = h
 
-total-before : (n : ℕ) (file : List ℕ) (r : Record) (o : Reading) → total n file (before r o) ≡ total (n + 1) (stored r n file) o
-unfolding storedAll
-total-before n file r (records rs) = ap (λ k. all k (storedAll (n + 1) rs (stored r n file))) (omega arith)
-total-before n file r (refusal-of f) = refl
-
-total-none : (n : ℕ) (file : List ℕ) → total n file (records []) ≡ all n file
-unfolding storedAll
-total-none n file = ap (λ k. all k file) (omega arith)
-
-module _ (s : List ℕ) (st : State) (r : Turn) (q : asTurn s r ≡ turnIn s (st .version) (framesOf s st) (st .held)) where
-  turned : readFrom s st ≡ toldTurn (asTurn s r)
+module _ (s : List ℕ) (st : State) (t : T.Turn ℕ Mark Record) (q : turnOf s st ≡ t) where
+  turned : readFrom s st ≡ toldTurn t
   turned = ap told (unrolls (stateOf s st) (aheadOf s (st .held)))
-      ∙ (told-after (T.turn body (st .version) (framesOf s st) (aheadOf s (st .held))) ∙ ap toldTurn (sym q))
+      ∙ (told-after (T.turn body (st .version) (framesOf s st) (aheadOf s (st .held))) ∙ ap toldTurn q)
 
-  less : Less (length (restOf s (st .held))) (asTurn s r)
-  less = rw q (less-filed (length (restOf s (st .held))) (T.turn body (st .version) (framesOf s st) (aheadOf s (st .held))) (turn-less (st .version) (framesOf s st) (aheadOf s (st .held))))
+  less : Less (length (restOf s (st .held))) t
+  less = rw (← q) (less-filed (length (restOf s (st .held))) (T.turn body (st .version) (framesOf s st) (aheadOf s (st .held))) (turn-less (st .version) (framesOf s st) (aheadOf s (st .held))))
 
-  pub emits-less : (e : Record) (t : State) → r ≡ U.Emit e t → length (restOf s (t .held)) < length (restOf s (st .held))
-  emits-less e t h = rw h at less
+-- A STEP OF THE CODE
 
-  pub moves-less : (t : State) → r ≡ U.Moved t → length (restOf s (t .held)) < length (restOf s (st .held))
-  moves-less t h = rw h at less
+-- a turn that takes no token leaves a layer
+unfoldable pub left : List ℕ → State → ℕ
+left s st = 2 * length (restOf s (st .held)) + cond (eqb (numberOf (st .block)) 9) 1 0
 
-  -- at the index n of the file
-  module _ (n : ℕ) (file : List ℕ) where
-    by-turn : (m : Turn) → r ≡ m → total n file (readFrom s st) ≡ total n file (toldTurn (asTurn s m))
-    by-turn m h = ap (total n file) (turned ∙ ap (λ u. toldTurn (asTurn s u)) h)
+at-most-one : (b : Bool) → cond b 1 0 ≤ 1
+at-most-one true = omega arith
+at-most-one false = omega arith
 
-    pub emits : (e : Record) (t : State) → r ≡ U.Emit e t → total n file (readFrom s st) ≡ total (n + 1) (stored e n file) (readFrom s t)
-    emits e t h = by-turn (U.Emit e t) h ∙ total-before n file e (readFrom s t)
+left-less : (s : List ℕ) (st to : State) → length (restOf s (to .held)) < length (restOf s (st .held)) → left s to < left s st
+unfolding left
+left-less s st to h = omega (arith, h, at-most-one (eqb (numberOf (to .block)) 9))
 
-    pub moves : (t : State) → r ≡ U.Moved t → total n file (readFrom s st) ≡ total n file (readFrom s t)
-    moves t h = by-turn (U.Moved t) h
+-- the turn to another state: what is read from there on, and the tokens ahead
+pub record Moves (s : List ℕ) (st to : State) : Type 0 where
+  pub same : readFrom s st ≡ readFrom s to
+  pub fewer : length (restOf s (to .held)) ≤ length (restOf s (st .held))
+  pub falls : left s to < left s st
 
-    pub ends : r ≡ U.Done → total n file (readFrom s st) ≡ all n file
-    ends h = by-turn U.Done h ∙ total-none n file
+-- the same with a record
+pub record Emits (s : List ℕ) (st : State) (r : Record) (to : State) : Type 0 where
+  pub more : readFrom s st ≡ before r (readFrom s to)
+  pub fewer : length (restOf s (to .held)) < length (restOf s (st .held))
+  pub falls : left s to < left s st
 
-    pub stops : (f : Refusal) → r ≡ U.Refused f → total n file (readFrom s st) ≡ none f
-    stops f h = by-turn (U.Refused f) h
+module _ (s : List ℕ) (st : State) (e : Step) (h : Makes s st e) where
+  pub emits : (r : Record) (t : Token) → e ≡ S.Gives r t → (to : State) → (to .held ≡ t) × ((s : List ℕ) → fits (st .block) (r .kind) ≡ true → stateOf s to ≡ afterIn s st r) → Emits s st r to
+  emits r t g to a =
+      let q = gives-turn s st r t (rw g at h) to a in
+      let l = less s st _ q in
+      record { more = turned s st _ q; fewer = l; falls = left-less s st to l }
 
--- THE END OF THE PASS
+  moves : (to : State) → turnOf s st ≡ T.moved (stateOf s to) (aheadOf s (to .held)) → Moves s st to
+  moves to q =
+      let l : length (restOf s (to .held)) < length (restOf s (st .held)) = less s st _ q in
+      record { same = turned s st _ q; fewer = omega (arith, l); falls = left-less s st to l }
 
-abbrev countIn : Total → Counted
-countIn (all n file) = C.Records n
-countIn (none r) = C.Refused r
+  pub ends : (t : Token) → e ≡ S.Ends t → eqb (numberOf (st .block)) 0 ≡ false → (to : State) → to ≡ movedTo (firstOf (around st (st .block))) t st → Moves s st to
+  ends t g b to a = moves to (ends-turn s st t (rw g at h) b to a)
 
-abbrev fileIn : List ℕ → Total → List ℕ
-fileIn other (all n file) = file
-fileIn other (none r) = other
+  pub lasts : (t : Token) → e ≡ S.Ends t → eqb (numberOf (st .block)) 0 ≡ true → readFrom s st ≡ records []
+  lasts t g b = turned s st _ (last-turn s st t (rw g at h) b)
 
-count-total : (file : List ℕ) (o : Reading) → countIn (total 0 file o) ≡ countOf o
-count-total file (records rs) = ap C.Records (omega arith)
-count-total file (refusal-of r) = refl
+  pub goes : (t : Token) → e ≡ S.Goes t → (to : State) → to ≡ movedTo B.Layer t st → Moves s st to
+  goes t g to a = moves to (goes-turn s st t (rw g at h) to a)
 
-clash : (n : ℕ) (file : List ℕ) (r : Refusal) → _≡_ {A = Total} (all n file) (none r) → ⊥
-clash n file r e = let z : _≡_ {A = ℕ} 0 1 = cc in omega arith
+  pub backs : e ≡ S.Back → (to : State) → to ≡ movedTo (firstOf (around st (st .block))) (st .held) st → Moves s st to
+  unfolding left
+  backs g to a =
+      let m : Makes s st S.Back = rw g at h in
+      let k : to .held ≡ st .held = rw a in
+      let b = outer-other st to (st .held) a (back-layer s st m) in
+      record {
+        same = turned s st (turnOf s to) (back-turn s st m to a) ∙ sym (turned s to (turnOf s to) refl);
+        fewer = rw k (omega arith);
+        falls = rw (k, b, back-layer s st m) (omega arith);
+      }
 
--- what `pass` answers for a reading, and the file as it leaves it
-abbrev pub Passed : List ℕ → Reading → Counted → List ℕ → Type 0
-Passed file o r exit = (r ≡ countOf o) × ((rs : List Record) → o ≡ records rs → exit ≡ storedAll 0 rs file)
+  pub stops : (r : Refusal) → e ≡ S.Refused r → readFrom s st ≡ refusal-of r
+  stops r g = turned s st _ (refused-turn s st r (rw g at h))
 
-module _ (file : List ℕ) (o : Reading) (exit : List ℕ) where
-  pub passed : (n : ℕ) → total 0 file o ≡ all n exit → Passed file o (C.Records n) exit
-  passed n e = (
-    sym (ap countIn e) ∙ count-total file o,
-    λ rs h. sym (ap (fileIn []) (ap (total 0 file) (sym h) ∙ e)),
-  )
+-- SO FAR
 
-  pub refused : (r : Refusal) → total 0 file o ≡ none r → Passed file o (C.Refused r) exit
-  refused r e = (
-    sym (ap countIn e) ∙ count-total file o,
-    λ rs h. absurd (clash (0 + length rs) (storedAll 0 rs file) r (ap (total 0 file) (sym h) ∙ e)),
-  )
+follow-none : (o : Reading) → follow [] o ≡ o
+follow-none (records qs) = refl
+follow-none (refusal-of r) = refl
+
+follow-more : (rs : List Record) (r : Record) (o : Reading) → follow rs (before r o) ≡ follow (rs ++ (r ∷ [])) o
+follow-more rs r (records qs) = ap records (sym (append-assoc rs (r ∷ []) qs))
+follow-more rs r (refusal-of f) = refl
+
+stored-more : (rs : List Record) (r : Record) (n : ℕ) (file : List ℕ) → storedAll n (rs ++ (r ∷ [])) file ≡ stored r (n + length rs) (storedAll n rs file)
+unfolding storedAll
+stored-more [] r n file = ap (λ k. stored r k file) (omega arith)
+stored-more (q ∷ rs) r n file = stored-more rs r (n + 1) (stored q n file) ∙ ap (λ k. stored r k (storedAll (n + 1) rs (stored q n file))) (omega arith)
+
+module _ (s : List ℕ) (st : State) (file : List ℕ) where
+  pub none-yet : Further s st file 0 st file
+  unfolding storedAll
+  none-yet = record { given = []; count = refl; rest = sym (follow-none (readFrom s st)); laid = refl; fewer = omega arith }
+
+  module _ (n : ℕ) (at : State) (now : List ℕ) (f : Further s st file n at now) where
+    pub one-more : (r : Record) (to : State) → Emits s at r to → Further s st file (n + 1) to (stored r n now)
+    one-more r to e =
+        let gs = f .given in
+        let k : 0 + length gs ≡ n = omega (arith, f .count) in
+        record {
+          given = gs ++ (r ∷ []);
+          count = length-append gs (r ∷ []) ∙ ap (λ m. m + 1) (f .count);
+          rest = f .rest ∙ (ap (follow gs) (e .more) ∙ follow-more gs r (readFrom s to));
+          laid = sym (stored-more gs r 0 file ∙ rw (k, ← f .laid));
+          fewer = omega (arith, e .fewer, f .fewer);
+        }
+
+    pub no-more : (to : State) → Moves s at to → Further s st file n to now
+    no-more to m = record { given = f .given; count = f .count; rest = f .rest ∙ ap (follow (f .given)) (m .same); laid = f .laid; fewer = omega (arith, m .fewer, f .fewer) }
+
+    pub over : (most : ℕ) → n ≤ most → readFrom s at ≡ records [] → Passes s st most file now (P.Over n)
+    over most h e = (f .given ++ [], f .rest ∙ ap (follow (f .given)) e, ap length (append-nil (f .given)) ∙ f .count, h, f .laid ∙ ap (λ l. storedAll 0 l file) (sym (append-nil (f .given))))
+
+    pub refused : (r : Refusal) → readFrom s at ≡ refusal-of r → readFrom s st ≡ refusal-of r
+    refused r e = f .rest ∙ ap (follow (f .given)) e

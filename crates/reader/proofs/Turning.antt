@@ -13,8 +13,6 @@ use Rattle.reader.specs.declared.state.Block.the-variants as B
 use Rattle.reader.specs.declared.state.State.{State}
 use Rattle.reader.specs.declared.step.Step.{Step}
 use Rattle.reader.specs.declared.step.Step.the-variants as S
-use Rattle.reader.specs.declared.turn.Turn.{Turn}
-use Rattle.reader.specs.declared.turn.Turn.the-variants as U
 use Rattle.grammar.specs.Tokens.{Ahead}
 use Rattle.grammar.specs.Grammar as G
 use Rattle.grammar.specs.Grammar.{stay, enter, named, version}
@@ -24,9 +22,10 @@ use Rattle.grammar.specs.Turns as T
 use Rattle.grammar.specs.Turns.{step, applied, leave, become, state, turn}
 use Rattle.grammar.specs.Reading.{Mark}
 use Rattle.reader.specs.Code.{aheadOf}
-use Rattle.reader.specs.Open.{blockOf, frameOf, aroundLayer, around, outerFrames, framesOf, stateOf, movedTo, firstOf, numberOf, oneOf, fits}
-use Rattle.reader.specs.Stepped.{Entry, filedStep, filedTurn, asStep, stepIn, appliedIn, afterIn, turnIn, asTurn}
+use Rattle.reader.specs.Open.{blockOf, frameOf, aroundLayer, around, outerFrames, framesOf, stateOf, movedTo, firstOf, numberOf, fits}
+use Rattle.reader.specs.Stepped.{Entry, filedStep, filedTurn, asStep, stepIn, appliedIn, afterIn, turnIn}
 use Rattle.reader.proofs.After.{around-moved, frames-moved}
+use Rattle.reader.proofs.Among.{the-library}
 use Rattle.reader.proofs.Fits.{Fits, step-fits}
 
 -- A STEP AND THE TURN
@@ -63,7 +62,7 @@ frame-block s o B.Path = refl
 
 module _ (s : List ℕ) (o : State) where
   -- the turn in the open blocks, where the innermost makes the step e
-  pub turn-of : (e : T.Step ℕ Mark Entry) → e ≡ stepIn s (o .version) (frameOf s o (o .block)) (o .held) (body (blockOf (o .block)))
+  turn-of : (e : T.Step ℕ Mark Entry) → e ≡ stepIn s (o .version) (frameOf s o (o .block)) (o .held) (body (blockOf (o .block)))
       → turnIn s (o .version) (framesOf s o) (o .held) ≡ appliedIn (o .version) (frameOf s o (o .block)) (outerFrames s o) (turnIn s (o .version) (outerFrames s o) (o .held)) e
   unfolding turn
   turn-of e h = let f = frameOf s o (o .block) in let a = aheadOf s (o .held) in let fs = outerFrames s o in
@@ -72,7 +71,7 @@ module _ (s : List ℕ) (o : State) where
       ∙ ap (appliedIn (o .version) f fs (turnIn s (o .version) fs (o .held))) (sym h)
 
   -- the options of a layer have ended
-  pub goes-on : (t : Token) → o .block ≡ B.Options → stateOf s (movedTo B.Layer t o) ≡ state (o .version) (become G.Layer (frameOf s o (o .block)) ∷ outerFrames s o)
+  goes-on : (t : Token) → o .block ≡ B.Options → stateOf s (movedTo B.Layer t o) ≡ state (o .version) (become G.Layer (frameOf s o (o .block)) ∷ outerFrames s o)
   goes-on t e =
       subst (λ b. stateOf s (movedTo B.Layer t o) ≡ state (o .version) (become G.Layer (frameOf s o b) ∷ map (frameOf s o) (around o b))) (sym e)
       (ap (λ fs. state (o .version) (T.opened G.Layer (o .layer) [] [] ∷ fs)) (frames-moved s o t B.Layer (aroundLayer (o .«in_port»))))
@@ -104,63 +103,61 @@ around-left o B.Polygon h = refl
 around-left o B.Path h = refl
 
 module _ (s : List ℕ) (o : State) (t : Token) where
-  pub left-frames : eqb (numberOf (o .block)) 0 ≡ false → framesOf s (movedTo (firstOf (around o (o .block))) t o) ≡ outerFrames s o
+  left-frames : eqb (numberOf (o .block)) 0 ≡ false → framesOf s (movedTo (firstOf (around o (o .block))) t o) ≡ outerFrames s o
   left-frames h = let c = firstOf (around o (o .block)) in
       ap (λ bs. map (frameOf s (movedTo c t o)) (c ∷ bs)) (around-moved s o t c c)
       ∙ frames-moved s o t c (c ∷ around o c)
       ∙ ap (map (frameOf s o)) (around-left o (o .block) h)
 
-  pub left-turn : eqb (numberOf (o .block)) 0 ≡ false → T.moved (stateOf s (movedTo (firstOf (around o (o .block))) t o)) (aheadOf s t) ≡ leave {R = Record} (o .version) (outerFrames s o) (aheadOf s t)
+  left-turn : eqb (numberOf (o .block)) 0 ≡ false → T.moved (stateOf s (movedTo (firstOf (around o (o .block))) t o)) (aheadOf s t) ≡ leave {R = Record} (o .version) (outerFrames s o) (aheadOf s t)
   left-turn h = ap (λ fs. leave (o .version) fs (aheadOf s t)) (left-frames h)
 
   -- a library is the last
-  pub last-turn : o .block ≡ B.Library → T.done ≡ leave {R = Record} (o .version) (outerFrames s o) (aheadOf s t)
-  last-turn b = rw b
+  library-last : o .block ≡ B.Library → T.done ≡ leave {R = Record} (o .version) (outerFrames s o) (aheadOf s t)
+  library-last b = rw b
 
 -- A TURN OF THE CODE
 
 module _ (s : List ℕ) (o : State) where
   -- the step that the innermost block makes
-  abbrev Makes : Step → Type 0
+  abbrev pub Makes : Step → Type 0
   Makes e = asStep s e ≡ stepIn s (o .version) (frameOf s o (o .block)) (o .held) (body (blockOf (o .block)))
 
   -- the turn in the open blocks
-  abbrev Turns : Turn → Type 0
-  Turns x = asTurn s x ≡ turnIn s (o .version) (framesOf s o) (o .held)
+  abbrev pub turnOf : T.Turn ℕ Mark Record
+  turnOf = turnIn s (o .version) (framesOf s o) (o .held)
 
   pub made-fits : (e : Step) → Makes e → Fits (o .block) (asStep s e)
   made-fits e h = rw h (step-fits s (o .version) (frameOf s o (o .block)) (o .held) (o .block))
 
-  pub gives-turn : (r : Record) (t : Token) → Makes (S.Gives r t) → (q : State) → (q .held ≡ t) × ((s : List ℕ) → fits (o .block) (r .kind) ≡ true → stateOf s q ≡ afterIn s o r) → Turns (U.Emit r q)
-  gives-turn r t h q a = ap₂ (λ x y. T.emit r x (aheadOf s y)) (a .1 s (made-fits (S.Gives r t) h)) (a .0) ∙ sym (turn-of s o (asStep s (S.Gives r t)) h)
+  pub gives-turn : (r : Record) (t : Token) → Makes (S.Gives r t) → (q : State) → (q .held ≡ t) × ((s : List ℕ) → fits (o .block) (r .kind) ≡ true → stateOf s q ≡ afterIn s o r)
+      → turnOf ≡ T.emit r (stateOf s q) (aheadOf s (q .held))
+  gives-turn r t h q a = turn-of s o (asStep s (S.Gives r t)) h ∙ sym (ap₂ (λ x y. T.emit r x (aheadOf s y)) (a .1 s (made-fits (S.Gives r t) h)) (a .0))
 
-  pub ends-turn : (t : Token) → Makes (S.Ends t) → (x : Turn) → ((s : List ℕ) → asTurn s x ≡ leave (o .version) (outerFrames s o) (aheadOf s t)) → Turns x
-  ends-turn t h x a = a s ∙ sym (turn-of s o (asStep s (S.Ends t)) h)
+  pub ends-turn : (t : Token) → Makes (S.Ends t) → eqb (numberOf (o .block)) 0 ≡ false → (q : State) → q ≡ movedTo (firstOf (around o (o .block))) t o
+      → turnOf ≡ T.moved (stateOf s q) (aheadOf s (q .held))
+  ends-turn t h b q e = rw e (turn-of s o (asStep s (S.Ends t)) h ∙ sym (left-turn s o t b))
 
-  pub goes-turn : (t : Token) → Makes (S.Goes t) → (q : State) → q ≡ movedTo B.Layer t o → Turns (U.Moved q)
-  goes-turn t h q e = rw e (ap (λ x. T.moved x (aheadOf s t)) (goes-on s o t (made-fits (S.Goes t) h)) ∙ sym (turn-of s o (asStep s (S.Goes t)) h))
+  pub last-turn : (t : Token) → Makes (S.Ends t) → eqb (numberOf (o .block)) 0 ≡ true → turnOf ≡ T.done
+  last-turn t h b = turn-of s o (asStep s (S.Ends t)) h ∙ sym (library-last s o t (the-library (o .block) b))
 
-  pub back-turn : Makes S.Back → (x : Turn) → (o .block ≡ B.Layer → asTurn s x ≡ turnIn s (o .version) (outerFrames s o) (o .held)) → Turns x
-  back-turn h x a = a (made-fits S.Back h) ∙ sym (turn-of s o (asStep s S.Back) h)
+  pub goes-turn : (t : Token) → Makes (S.Goes t) → (q : State) → q ≡ movedTo B.Layer t o → turnOf ≡ T.moved (stateOf s q) (aheadOf s (q .held))
+  goes-turn t h q e = rw e (turn-of s o (asStep s (S.Goes t)) h ∙ sym (ap (λ x. T.moved x (aheadOf s t)) (goes-on s o t (made-fits (S.Goes t) h))))
 
-  pub refused-turn : (r : Refusal) → Makes (S.Refused r) → Turns (U.Refused r)
-  refused-turn r h = sym (turn-of s o (asStep s (S.Refused r)) h)
+  -- where a layer has ended, the turn is that of the block around it, which is no layer
+  pub back-layer : Makes S.Back → o .block ≡ B.Layer
+  back-layer h = made-fits S.Back h
 
--- the state of the port or the obstructions around a layer that has ended
-module _ (o q : State) (e : q ≡ movedTo (firstOf (around o (o .block))) (o .held) o) (b : o .block ≡ B.Layer) where
-  pub outer-turn : (s : List ℕ) → turnIn s (q .version) (framesOf s q) (q .held) ≡ turnIn s (o .version) (outerFrames s o) (o .held)
-  outer-turn s = rw e (ap (λ fs. turnIn s (o .version) fs (o .held)) (left-frames s o (o .held) (rw b)))
+  pub back-turn : Makes S.Back → (q : State) → q ≡ movedTo (firstOf (around o (o .block))) (o .held) o → turnOf ≡ turnIn s (q .version) (framesOf s q) (q .held)
+  back-turn h q e = rw e (turn-of s o (asStep s S.Back) h ∙ sym (ap (λ fs. turnIn s (o .version) fs (o .held)) (left-frames s o (o .held) (rw (back-layer h)))))
 
-  outer-other : oneOf (q .block) (B.Options ∷ B.Layer ∷ []) ≡ false
-  outer-other = rw (e, b) (go (o .«in_port»))
-    where
-      go : (port : Bool) → oneOf (firstOf (aroundLayer port)) (B.Options ∷ B.Layer ∷ []) ≡ false
-      go true = refl
-      go false = refl
+  pub refused-turn : (r : Refusal) → Makes (S.Refused r) → turnOf ≡ T.halted (r .number) (record { place = r .place; line = r .line })
+  refused-turn r h = turn-of s o (asStep s (S.Refused r)) h
 
-  -- neither goes on nor back
-  pub not-options : q .block ≡ B.Options → ⊥
-  not-options h = false≢true (sym outer-other ∙ rw h)
-
-  pub not-layer : q .block ≡ B.Layer → ⊥
-  not-layer h = false≢true (sym outer-other ∙ rw h)
+-- what is around a layer is none
+pub outer-other : (o q : State) (t : Token) → q ≡ movedTo (firstOf (around o (o .block))) t o → o .block ≡ B.Layer → eqb (numberOf (q .block)) 9 ≡ false
+outer-other o q t e b = rw (e, b) (go (o .«in_port»))
+  where
+    go : (port : Bool) → eqb (numberOf (firstOf (aroundLayer port))) 9 ≡ false
+    go true = refl
+    go false = refl

@@ -2,7 +2,7 @@
 use Prim.Native.Nat.{ℕ, zero, suc}
 use mathlib.Core.Bool.{Bool, true, false, cond, _||_}
 use mathlib.Core.List.{List, [], _∷_, _++_, map}
-use lib.Dec.{eqb}
+use lib.Dec.{leb, eqb}
 use lib.ListN.{take, drop}
 use Rattle.record.specs.Kinds.{VERSION, UNITS, SITE, SITE-CLASS, SYMMETRY, SIZE, MACRO, PIN, PORT, OBS, LAYER, RECT, POLYGON, PATH, POINT}
 use Rattle.lexer.specs.declared.Token.{Token}
@@ -137,6 +137,10 @@ numberOf B.Layer = 9
 numberOf B.Rect = 10
 numberOf B.Polygon = 11
 numberOf B.Path = 12
+
+-- a port, obstructions, and what stands in them
+unfoldable pub within : Block → Bool
+within b = leb 6 (numberOf b)
 
 abbrev pub oneOf : Block → List Block → Bool
 oneOf b [] = false

@@ -14,8 +14,6 @@ use Rattle.reader.specs.declared.step.Step.{Step}
 use Rattle.reader.specs.declared.step.Step.the-variants as S
 use Rattle.reader.specs.declared.take.Taken.{Taken}
 use Rattle.reader.specs.declared.take.Taken.the-variants as N
-use Rattle.reader.specs.declared.turn.Turn.{Turn}
-use Rattle.reader.specs.declared.turn.Turn.the-variants as U
 use Rattle.grammar.specs.Tokens.{Answer, ok}
 use Rattle.grammar.specs.Grammar as G
 use Rattle.grammar.specs.Grammar.{Item, Move, stay, enter, named, version}
@@ -25,7 +23,7 @@ use Rattle.grammar.specs.Turns as T
 use Rattle.grammar.specs.Turns.{labelOf, given, ended, shift, leave, become, state}
 use Rattle.grammar.specs.Reading.{Mark, filed}
 use Rattle.reader.specs.Code.{tokOf, aheadOf, refuse, afterWord, complaint}
-use Rattle.reader.specs.Open.{nameIn, frameOf, outerFrames, stateOf}
+use Rattle.reader.specs.Open.{nameIn, frameOf, outerFrames}
 
 -- a record as the file has it, and the name of the block that it opens
 pub record Entry : Type 0 where
@@ -126,10 +124,3 @@ afterIn s o r =
 -- the turn in the blocks fs, of the version v, with the token t held
 abbrev pub turnIn : List ℕ → ℕ → List (Frame ℕ) → Token → T.Turn ℕ Mark Record
 turnIn s v fs t = filedTurn (T.turn body v fs (aheadOf s t))
-
--- the code's turns
-abbrev pub asTurn : List ℕ → Turn → T.Turn ℕ Mark Record
-asTurn s (U.Emit r o) = T.emit r (stateOf s o) (aheadOf s (o .held))
-asTurn s (U.Moved o) = T.moved (stateOf s o) (aheadOf s (o .held))
-asTurn s U.Done = T.done
-asTurn s (U.Refused r) = T.halted (r .number) (record { place = r .place; line = r .line })

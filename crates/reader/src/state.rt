@@ -2,8 +2,9 @@
 ghost use mathlib.Core.Path.{_≡_};
 ghost use mathlib.Core.List.{List};
 ghost use Prim.Native.Nat.{ℕ};
+ghost use lib.Dec.{eqb};
 ghost use Rattle.grammar.specs.Reading.{start};
-ghost use Rattle.reader.specs.Open.{aroundLayer, around, firstOf, stateOf, movedTo};
+ghost use Rattle.reader.specs.Open.{aroundLayer, around, firstOf, stateOf, movedTo, numberOf, within};
 use lexer::Token;
 
 pub enum Block {
@@ -144,6 +145,33 @@ impl State {
             Block::Port
         } else {
             Block::Obs
+        }
+    }
+
+    // Whether the innermost block is a port, obstructions, or in one.
+    pub fn is_within(self) -> bool
+        ensures { λ r. ⌜ r ≡ within (self .block) ⌝ }
+    {
+        let block = self.block;
+        match block {
+            Block::Library => false,
+            Block::Units => false,
+            Block::Site => false,
+            Block::Symmetry => false,
+            Block::Macro => false,
+            Block::Pin => false,
+            _ => true,
+        }
+    }
+
+    // Whether no block is open but the library.
+    pub fn is_library(self) -> bool
+        ensures { λ r. ⌜ r ≡ eqb (numberOf (self .block)) 0 ⌝ }
+    {
+        let block = self.block;
+        match block {
+            Block::Library => true,
+            _ => false,
         }
     }
 }
