@@ -15,8 +15,10 @@ use Rattle.reader.specs.declared.state.Block.the-variants as B
 use Rattle.reader.specs.declared.state.State.{State}
 use Rattle.grammar.specs.Grammar.{stay}
 use Rattle.grammar.specs.Turns.{without, counting, state}
-use Rattle.reader.specs.Open.{siteLacks, points, frameOf, aroundLayer, around, outerFrames, stateOf, movedTo, oneOf}
-use Rattle.reader.specs.Stepped.{moveOf, afterIn}
+use Rattle.parser.specs.Kept.{siteLacks, points}
+use Rattle.reader.specs.Open.{frameOf, aroundLayer, around, outerFrames, stateOf, movedTo, oneOf}
+use Rattle.parser.specs.Stepped.{moveOf}
+use Rattle.reader.specs.Stepped.{afterIn}
 use Rattle.reader.proofs.Among.{first-or, one-of-two}
 
 -- WHAT A BLOCK LACKS

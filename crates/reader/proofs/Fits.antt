@@ -18,9 +18,9 @@ use Rattle.grammar.specs.Table.{body}
 use Rattle.grammar.specs.Engine.{Rec, Draft, Frame, blank, get-name, items, empty}
 use Rattle.grammar.specs.Turns.{Step, gives, ends, goes, backs, halts, given, ended, gone, actFor, perform, peek-key, judged, step}
 use Rattle.grammar.specs.Reading.{Mark}
-use Rattle.reader.specs.Code.{aheadOf}
+use Rattle.parser.specs.Code.{aheadOf}
 use Rattle.reader.specs.Open.{blockOf, oneOf, homes, fitsIn, fits}
-use Rattle.reader.specs.Stepped.{Entry, filedStep, stepIn}
+use Rattle.parser.specs.Stepped.{Entry, filedStep, stepIn}
 use Rattle.grammar.proofs.Answers.{Ok, Holds}
 use Rattle.grammar.proofs.Takes.{takes, numbered, all-numbered, eager}
 use Rattle.grammar.proofs.Kept.{Kept, items-kept}

@@ -24,17 +24,17 @@ use Rattle.lexer.proofs.Cleared.{clear-short}
 use Rattle.lexer.proofs.Whole.{unrolls}
 use Rattle.lexer.proofs.Kinded.{kinded}
 use Rattle.reader.specs.declared.state.State.{State}
-use Rattle.reader.specs.declared.take.Taken.{Taken}
-use Rattle.reader.specs.declared.take.Taken.the-variants as T
+use Rattle.parser.specs.declared.take.Taken.{Taken}
+use Rattle.parser.specs.declared.take.Taken.the-variants as T
 use Rattle.reader.specs.declared.pass.Begun.the-variants as B
 use Rattle.reader.specs.declared.pass.Passed.{Passed}
 use Rattle.reader.specs.declared.pass.Passed.the-variants as P
 use Rattle.grammar.specs.Reading.{tok, ahead, start, readAhead, Reading, records, refusal-of, told, reading}
-use Rattle.reader.specs.Code.{restOf, aheadOf, endOf, heldNext}
+use Rattle.parser.specs.Code.{restOf, aheadOf, endOf, heldNext}
 use Rattle.reader.specs.Open.{stateOf}
 use Rattle.reader.specs.Answered.{encodedAll, room, answered, filled}
 use Rattle.reader.specs.Passed.{readFrom, storedAll, Begins, Further, Passes}
-use Rattle.reader.proofs.Ahead.{end-bytes}
+use Rattle.parser.proofs.Ahead.{end-bytes}
 use Rattle.grammar.proofs.Falls.{readOn}
 use Rattle.reader.proofs.Tally.{few-ahead}
 

@@ -1,8 +1,3 @@
-pub mod Acts
-pub mod Ahead
-pub mod Items
-pub mod Rows
-pub mod Second
 pub mod Tally
 pub mod Handed
 pub mod Among

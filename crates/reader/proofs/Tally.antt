@@ -15,8 +15,8 @@ use Rattle.lexer.specs.Lex.{from}
 use Rattle.lexer.proofs.Whole.{few}
 use Rattle.reader.specs.declared.state.State.{State}
 use Rattle.reader.specs.declared.state.Block.the-variants as B
-use Rattle.reader.specs.declared.step.Step.{Step}
-use Rattle.reader.specs.declared.step.Step.the-variants as S
+use Rattle.parser.specs.declared.step.Step.{Step}
+use Rattle.parser.specs.declared.step.Step.the-variants as S
 use Rattle.reader.specs.declared.pass.Passed.the-variants as P
 use Rattle.grammar.specs.Tokens.{end}
 use Rattle.grammar.specs.Table.{body}
@@ -24,7 +24,7 @@ use Rattle.grammar.specs.Engine.{Rec}
 use Rattle.grammar.specs.Turns as T
 use Rattle.grammar.specs.Turns.{Outcome, read, stopped, more}
 use Rattle.grammar.specs.Reading.{Mark, tok, filed, Reading, records, refusal-of, told}
-use Rattle.reader.specs.Code.{restOf, aheadOf}
+use Rattle.parser.specs.Code.{restOf, aheadOf}
 use Rattle.reader.specs.Open.{around, framesOf, stateOf, movedTo, firstOf, numberOf, fits}
 use Rattle.reader.specs.Stepped.{filedTurn, afterIn}
 use Rattle.reader.specs.Passed.{readFrom, follow, storedAll, Further, Passes}

@@ -11,8 +11,8 @@ use Rattle.refusal.specs.declared.Refusal.{Refusal}
 use Rattle.reader.specs.declared.state.Block.{Block}
 use Rattle.reader.specs.declared.state.Block.the-variants as B
 use Rattle.reader.specs.declared.state.State.{State}
-use Rattle.reader.specs.declared.step.Step.{Step}
-use Rattle.reader.specs.declared.step.Step.the-variants as S
+use Rattle.parser.specs.declared.step.Step.{Step}
+use Rattle.parser.specs.declared.step.Step.the-variants as S
 use Rattle.grammar.specs.Tokens.{Ahead}
 use Rattle.grammar.specs.Grammar as G
 use Rattle.grammar.specs.Grammar.{stay, enter, named, version}
@@ -21,9 +21,10 @@ use Rattle.grammar.specs.Engine.{Rec, Frame}
 use Rattle.grammar.specs.Turns as T
 use Rattle.grammar.specs.Turns.{step, applied, leave, become, state, turn}
 use Rattle.grammar.specs.Reading.{Mark}
-use Rattle.reader.specs.Code.{aheadOf}
+use Rattle.parser.specs.Code.{aheadOf}
 use Rattle.reader.specs.Open.{blockOf, frameOf, aroundLayer, around, outerFrames, framesOf, stateOf, movedTo, firstOf, numberOf, fits}
-use Rattle.reader.specs.Stepped.{Entry, filedStep, filedTurn, asStep, stepIn, appliedIn, afterIn, turnIn}
+use Rattle.parser.specs.Stepped.{Entry, filedStep, asStep, stepIn}
+use Rattle.reader.specs.Stepped.{filedTurn, appliedIn, afterIn, turnIn}
 use Rattle.reader.proofs.After.{around-moved, frames-moved}
 use Rattle.reader.proofs.Among.{the-library}
 use Rattle.reader.proofs.Fits.{Fits, step-fits}

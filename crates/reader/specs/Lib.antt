@@ -1,5 +1,4 @@
 pub mod Answered
-pub mod Code
 pub mod Open
 pub mod Stepped
 pub mod Passed

@@ -14,6 +14,7 @@ use Rattle.grammar.specs.Engine.{Frame}
 use Rattle.grammar.specs.Turns as T
 use Rattle.grammar.specs.Turns.{opened}
 use Rattle.grammar.specs.Reading.{libraryFrame}
+use Rattle.parser.specs.Kept.{siteLacks, points, nameIn}
 
 -- the block of the grammar that the code's block is
 abbrev pub blockOf : Block → G.Block
@@ -30,19 +31,6 @@ blockOf B.Layer = G.Layer
 blockOf B.Rect = G.Rect
 blockOf B.Polygon = G.Polygon
 blockOf B.Path = G.Path
-
--- the kinds that a site lacks
-abbrev pub siteLacks : Bool → Bool → List ℕ
-siteLacks classless sizeless = cond classless (SITE-CLASS ∷ []) [] ++ cond sizeless (SIZE ∷ []) []
-
--- so many points
-unfoldable pub points : ℕ → List ℕ
-points zero = []
-points (suc n) = POINT ∷ points n
-
--- the name of so many bytes at a place of the text
-abbrev pub nameIn : List ℕ → ℕ → ℕ → List ℕ
-nameIn s start len = take len (drop start s)
 
 -- an open block, by what the state keeps of it
 abbrev pub frameOf : List ℕ → State → Block → Frame ℕ

@@ -14,7 +14,7 @@ use Rattle.reader.specs.declared.pass.Passed.the-variants as P
 use Rattle.grammar.specs.Table.{body}
 use Rattle.grammar.specs.Turns.{turns}
 use Rattle.grammar.specs.Reading.{Reading, records, refusal-of, told, reading}
-use Rattle.reader.specs.Code.{restOf, aheadOf}
+use Rattle.parser.specs.Code.{restOf, aheadOf}
 use Rattle.reader.specs.Open.{stateOf}
 
 -- the reading from a state of the code on: as many turns as there are tokens suffice

@@ -3,11 +3,11 @@ ghost use mathlib.Core.Path.{_≡_};
 ghost use Rattle.reader.specs.Passed.{Begins, Passes};
 use crate::state::Block;
 use crate::state::State;
-use crate::step::Step;
-use crate::take;
-use crate::take::Taken;
 use crate::turn;
 use lexer::Screened;
+use parser::step::Step;
+use parser::take;
+use parser::take::Taken;
 use refusal::Refusal;
 
 pub enum Begun {

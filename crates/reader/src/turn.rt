@@ -3,18 +3,18 @@ ghost use mathlib.Core.Path.{_≡_};
 ghost use mathlib.Core.Bool.{true, false};
 ghost use Rattle.grammar.specs.Table.{body};
 ghost use Rattle.reader.specs.Open.{blockOf, frameOf, within};
-ghost use Rattle.reader.specs.Stepped.{asStep, stepIn};
-use crate::geometry;
-use crate::layer;
-use crate::library;
-use crate::macros;
-use crate::pin;
-use crate::port;
-use crate::site;
+ghost use Rattle.parser.specs.Stepped.{asStep, stepIn};
 use crate::state::Block;
 use crate::state::State;
-use crate::step::Step;
-use crate::units;
+use parser::geometry;
+use parser::layer;
+use parser::library;
+use parser::macros;
+use parser::pin;
+use parser::port;
+use parser::site;
+use parser::step::Step;
+use parser::units;
 
 // The step of a port, of obstructions, and of what stands in them.
 pub fn inner_step(text: &[u8], st: State) -> Step

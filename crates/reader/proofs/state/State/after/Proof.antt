@@ -2,7 +2,7 @@
 use mathlib.Core.Path.{sym, _∙_}
 use borrow.Author.Tests.{ne-eqb}
 use Rattle.reader.specs.declared.state.Block.the-variants as B
-use Rattle.reader.specs.Stepped.{moveOf}
+use Rattle.parser.specs.Stepped.{moveOf}
 use Rattle.reader.specs.Open.{homes, fitsIn}
 use Rattle.reader.proofs.Among.{the-one}
 use Rattle.reader.proofs.After.{after-other}

@@ -1,6 +1,6 @@
 -- `reader::state::State::after_macro` meets its contract: the block has the name of the record.
 use Rattle.grammar.specs.Turns.{without}
-use Rattle.reader.specs.Stepped.{moveOf}
+use Rattle.parser.specs.Stepped.{moveOf}
 use Rattle.reader.proofs.state.State.after_macro.Statement.{statement}
 use Rattle.reader.proofs.state.State.after_macro.Tie as tie
 

@@ -1,6 +1,6 @@
 -- `reader::state::State::after_site` meets its contract: the block has the name of the record.
 use Rattle.grammar.specs.Turns.{without}
-use Rattle.reader.specs.Stepped.{moveOf}
+use Rattle.parser.specs.Stepped.{moveOf}
 use Rattle.reader.proofs.state.State.after_site.Statement.{statement}
 use Rattle.reader.proofs.state.State.after_site.Tie as tie
 

@@ -1,6 +1,6 @@
 -- `reader::state::State::after_units` meets its contract: the block starts where the record does.
 use Rattle.grammar.specs.Turns.{without}
-use Rattle.reader.specs.Stepped.{moveOf}
+use Rattle.parser.specs.Stepped.{moveOf}
 use Rattle.reader.proofs.state.State.after_units.Statement.{statement}
 use Rattle.reader.proofs.state.State.after_units.Tie as tie
 

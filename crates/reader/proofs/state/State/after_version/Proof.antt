@@ -1,6 +1,6 @@
 -- `reader::state::State::after_version` meets its contract: only the version changes.
 use Rattle.grammar.specs.Turns.{without}
-use Rattle.reader.specs.Stepped.{moveOf}
+use Rattle.parser.specs.Stepped.{moveOf}
 use Rattle.reader.proofs.state.State.after_version.Statement.{statement}
 use Rattle.reader.proofs.state.State.after_version.Tie as tie
 

@@ -1,0 +1,5 @@
+pub mod Acts
+pub mod Ahead
+pub mod Items
+pub mod Rows
+pub mod Second

@@ -1,0 +1,27 @@
+-- `parser::layer::parse_layer_geometries` meets its contract: each arm is the row of its word.
+use mathlib.Core.Path.{_∙_}
+use Rattle.grammar.specs.Grammar.{Layer}
+use Rattle.grammar.specs.Table.{body}
+use Rattle.grammar.specs.Turns.{perform}
+use Rattle.parser.proofs.Acts.{rowsOf, layer-words, looked, unlisted, unseen}
+use Rattle.parser.proofs.layer.parse_layer_geometries.Statement.{statement}
+use Rattle.parser.proofs.layer.parse_layer_geometries.Tie as tie
+
+pub parse-layer-geometries-spec : {M : Type 1} → statement M
+unfolding perform
+parse-layer-geometries-spec =
+    tie.close
+    (tie.spec
+    (λ c κs. tt) (λ c. c .match .keys1) (λ c. c .match .keys2) (λ c κs. tt)
+    (λ c v f e. let a = c .before .before .before .before .before .args in rw (c .peeked-refusal .ensures, c .before .enum-told .given .1)
+    (unseen (a .text .now) v f (a .held) 5 (rowsOf (body Layer)) _ layer-words _ (c .before .before .before .peek-key .ensures) _ (c .before .enum-told .given .1)))
+    (λ c κs. tt) (λ c κs. tt) (λ c κs. tt) (λ c κs. tt) (λ c κs. tt) (λ c κs. tt)
+    (λ c v f e. let a = c .before .before .before .before .before .before .before .args in c .width .ensures f e ∙ looked (a .text .now) v f (a .held) 5 (rowsOf (body Layer)) _ layer-words _ (c .before .before .before .before .before .peek-key .ensures) _ _ (c .before .before .before .p .given .1) (c .before .match2 .keys1))
+    (λ c v f e. let a = c .before .before .before .before .before .before .before .args in c .rect .ensures f e ∙ looked (a .text .now) v f (a .held) 5 (rowsOf (body Layer)) _ layer-words _ (c .before .before .before .before .before .peek-key .ensures) _ _ (c .before .before .before .p .given .1) (c .before .match2 .keys2))
+    (λ c v f e. let a = c .before .before .before .before .before .before .before .args in c .polygon .ensures f e ∙ looked (a .text .now) v f (a .held) 5 (rowsOf (body Layer)) _ layer-words _ (c .before .before .before .before .before .peek-key .ensures) _ _ (c .before .before .before .p .given .1) (c .before .match2 .keys3))
+    (λ c v f e. let a = c .before .before .before .before .before .before .before .args in c .path .ensures f e ∙ looked (a .text .now) v f (a .held) 5 (rowsOf (body Layer)) _ layer-words _ (c .before .before .before .before .before .peek-key .ensures) _ _ (c .before .before .before .p .given .1) (c .before .match2 .keys4))
+    (λ c v f e. let a = c .before .before .before .before .before .before .before .args in c .via .ensures f e ∙ looked (a .text .now) v f (a .held) 5 (rowsOf (body Layer)) _ layer-words _ (c .before .before .before .before .before .peek-key .ensures) _ _ (c .before .before .before .p .given .1) (c .before .match2 .keys5))
+    (λ c v f e. let a = c .before .before .before .before .before .before .args in looked (a .text .now) v f (a .held) 5 (rowsOf (body Layer)) _ layer-words _ (c .before .before .before .before .peek-key .ensures) _ _ (c .before .before .p .given .1) (c .match2 .keys6))
+    (λ c v f e. let a = c .before .before .before .before .before .before .args in looked (a .text .now) v f (a .held) 5 (rowsOf (body Layer)) _ layer-words _ (c .before .before .before .before .peek-key .ensures) _ _ (c .before .before .p .given .1) (c .match2 .keys7))
+    (λ c v f e. let a = c .before .before .before .before .before .before .before .args in rw (c .complain .ensures)
+    (unlisted (a .text .now) v f (a .held) 5 (rowsOf (body Layer)) _ layer-words _ (c .before .before .before .before .before .peek-key .ensures) _ (c .before .before .before .p .given .1) (c .before .match2 .rest))))
