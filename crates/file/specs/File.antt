@@ -1,7 +1,7 @@
 -- The records of a file by their index.
 use Prim.Native.Nat.{ℕ, zero, suc, _*_, _/_, _%_}
 use mathlib.Core.Bool.{Bool, cond}
-use mathlib.Core.List.{List, [], _∷_}
+use mathlib.Core.List.{List, [], _∷_, _++_}
 use lib.ListN.{length, take, drop}
 use lib.Seq.{sets}
 use lib.Dec.{eqb, ltb}
@@ -26,6 +26,11 @@ front (suc n) file = decoded (take 36 file) ∷ front n (drop 36 file)
 -- the records that a file holds, in its order; bytes too few for a record count for nothing
 abbrev pub held : List ℕ → List Record
 held file = front (length file / 36) file
+
+-- the bytes of records, one after the other
+unfoldable pub encodedAll : List Record → List ℕ
+encodedAll [] = []
+encodedAll (r ∷ rs) = encoded r ++ encodedAll rs
 
 -- the record at an index of a file
 unfoldable pub recordAt : List ℕ → ℕ → Found

@@ -11,7 +11,7 @@ use Rattle.refusal.specs.Table.{noToken, done, recordRoom}
 use Rattle.refusal.specs.Table.{refused as refusal}
 use Rattle.record.specs.declared.Record.{Record}
 use Rattle.record.specs.Bytes.{encoded}
-use Rattle.file.specs.File.{stored}
+use Rattle.file.specs.File.{encodedAll, stored}
 use Rattle.record.proofs.Laws.{encoded-length}
 use Rattle.lexer.specs.declared.Token.{Token}
 use Rattle.lexer.specs.declared.Lexed.{Lexed}
@@ -32,7 +32,7 @@ use Rattle.reader.specs.declared.pass.Passed.the-variants as P
 use Rattle.grammar.specs.Reading.{tok, ahead, start, readAhead, Reading, records, refusal-of, told, reading}
 use Rattle.parser.specs.Code.{restOf, aheadOf, endOf, heldNext}
 use Rattle.reader.specs.Open.{stateOf}
-use Rattle.reader.specs.Answered.{encodedAll, room, answered, filled}
+use Rattle.reader.specs.Answered.{room, answered, filled}
 use Rattle.reader.specs.Passed.{readFrom, storedAll, Begins, Further, Passes}
 use Rattle.parser.proofs.Ahead.{end-bytes}
 use Rattle.grammar.proofs.Falls.{readOn}

@@ -1,20 +1,14 @@
 -- WHAT `read` ANSWERS for a reading, and what then stands in the record buffer that it was lent.
 use Prim.Native.Nat.{ℕ, _/_}
 use mathlib.Core.Bool.{cond}
-use mathlib.Core.List.{List, [], _∷_, _++_}
+use mathlib.Core.List.{List}
 use lib.Dec.{leb}
 use lib.ListN.{length}
 use lib.Seq.{sets}
 use Rattle.refusal.specs.declared.Refusal.{Refusal}
 use Rattle.refusal.specs.Table.{refused, done, recordRoom}
-use Rattle.record.specs.declared.Record.{Record}
-use Rattle.record.specs.Bytes.{encoded}
+use Rattle.file.specs.File.{encodedAll}
 use Rattle.grammar.specs.Reading.{Reading, records, refusal-of}
-
--- the bytes of records, one after the other
-unfoldable pub encodedAll : List Record → List ℕ
-encodedAll [] = []
-encodedAll (r ∷ rs) = encoded r ++ encodedAll rs
 
 -- the records that a buffer has room for; bytes too few for a record count for nothing
 abbrev pub room : List ℕ → ℕ

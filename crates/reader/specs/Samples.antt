@@ -6,8 +6,9 @@ use Rattle.refusal.specs.Table.{refused as refusal}
 use Rattle.little.specs.Little.{little}
 use Rattle.record.specs.Bytes.{encoded}
 use Rattle.record.specs.Made.{made, library}
+use Rattle.file.specs.File.{encodedAll}
 use Rattle.grammar.specs.Reading.{Reading, records}
-use Rattle.reader.specs.Answered.{encodedAll, answered, filled}
+use Rattle.reader.specs.Answered.{answered, filled}
 
 -- the reading of "VERSION 5.8 ; END LIBRARY"
 abbrev one : Reading
