@@ -5,34 +5,35 @@ use mathlib.Core.Path.{_≡_, refl, sym, ap, _∙_}
 use mathlib.Core.Logic.{inl, inr}
 use mathlib.Core.Bool.{true, false, not, or-true}
 use mathlib.Core.List.{List}
-use lib.ListN.{length, getD, take}
+use lib.ListN.{length, take}
 use borrow.Author.Tests.{lt-ltb, le-ltb}
 use Rattle.refusal.specs.Table.{refused, done, wrongRecord, lacking}
 use Rattle.record.specs.declared.Record.{Record}
-use Rattle.verdict.specs.Verdict.{among, first, blank, wrong, lacks, verdict}
+use Rattle.verdict.specs.Verdict.{among, first, wrong, lacks, verdict}
+use Rattle.verdict.specs.Meaning.{nth, Rises}
 use Rattle.verdict.specs.Facts.{Met, Unmet, Good, Wrong}
-use Rattle.verdict.proofs.Laws.{among-met, among-unmet, take-length, take-at, first-is}
+use Rattle.verdict.proofs.Laws.{among-in, among-not, take-length, take-at, first-is}
 
 -- what holds of the first n records of a function holds of the list that it gives
-module _ (l : List Record) (n : ℕ) (f : ℕ → Record) (size : length l ≡ n) (each : (i : ℕ) → i < n → getD l i blank ≡ f i) where
+module _ (l : List Record) (n : ℕ) (f : ℕ → Record) (size : length l ≡ n) (each : (i : ℕ) → i < n → nth l i ≡ f i) where
   met : (x : Record) → Met n f x → among x l ≡ true
-  met x m = among-met x l (m .0, rw size (m .1), m .2 ∙ sym (each (m .0) (m .1)))
+  met x m = among-in x l (m .0, rw size (m .1), m .2 ∙ sym (each (m .0) (m .1)))
 
   unmet : (x : Record) → Unmet n f x → among x l ≡ false
-  unmet x u = among-unmet x l (λ j h e. let k : j < n = rw size at h in u j k (e ∙ each j k))
+  unmet x u = among-not x l (λ m. let k : m .0 < n = rw size at (m .1) in u (m .0) k (m .2 ∙ each (m .0) k))
 
   met-before : (i : ℕ) → i < n → (x : Record) → Met i f x → among x (take i l) ≡ true
   met-before i h x m =
-      among-met x (take i l) (m .0, rw (take-length l i (omega arith)) (m .1), m .2 ∙ sym (take-at l i (m .0) (m .1) ∙ each (m .0) (omega (arith, m .1))))
+      among-in x (take i l) (m .0, rw (take-length l i (omega arith)) (m .1), m .2 ∙ sym (take-at l i (m .0) (m .1) ∙ each (m .0) (omega (arith, m .1))))
 
   unmet-before : (i : ℕ) → i < n → (x : Record) → Unmet i f x → among x (take i l) ≡ false
   unmet-before i h x u =
-      among-unmet x (take i l) (λ j k e.
-      let q : j < i = rw (take-length l i (omega arith)) at k in
-      u j q (e ∙ take-at l i j q ∙ each j (omega arith)))
+      among-not x (take i l) (λ m.
+      let q : m .0 < i = rw (take-length l i (omega arith)) at (m .1) in
+      u (m .0) q (m .2 ∙ take-at l i (m .0) q ∙ each (m .0) (omega arith)))
 
 module _ (rs fs : List Record) (m n : ℕ) (r f : ℕ → Record) (mr : length rs ≡ m) (nf : length fs ≡ n)
-    (er : (k : ℕ) → k < m → getD rs k blank ≡ r k) (ef : (i : ℕ) → i < n → getD fs i blank ≡ f i) where
+    (er : (k : ℕ) → k < m → nth rs k ≡ r k) (ef : (i : ℕ) → i < n → nth fs i ≡ f i) where
   pub good-wrong : (i : ℕ) → i < n → Good m r f i → wrong rs fs i ≡ false
   unfolding wrong
   good-wrong i h g = rw (ef i h) (rw (met rs m r mr er (f i) (g .known), unmet-before fs n f nf ef i h (f i) (g .new)))
@@ -76,12 +77,11 @@ module _ (rs fs : List Record) (m n : ℕ) (r f : ℕ → Record) (mr : length r
       (rw (first-wrong n (omega arith) g (λ l. absurd (omega arith)), le-ltb n n (omega arith), first-lacking m (omega arith) h (λ l. absurd (omega arith)), le-ltb m m (omega arith)))
 
 -- a file in the reading's own order
-pub verdict-in-order : (rs fs : List Record) → ((i j : ℕ) → i < j → j < length rs → getD rs i blank .at < getD rs j blank .at) → fs ≡ rs
+pub verdict-in-order : (rs fs : List Record) → Rises rs → fs ≡ rs
     → verdict rs fs ≡ refused done 0 0
 verdict-in-order rs fs up e =
-    let r : ℕ → Record = λ k. getD rs k blank in
     ap (verdict rs) e
-    ∙ verdict-done rs rs (length rs) (length rs) r r refl refl (λ k h. refl) (λ i h. refl)
+    ∙ verdict-done rs rs (length rs) (length rs) (nth rs) (nth rs) refl refl (λ k h. refl) (λ i h. refl)
     (λ j l. record {
       known = (j, l, refl);
       new = λ i h q. absurd (omega (arith, up i j h l, ap (λ x. x .at) q));

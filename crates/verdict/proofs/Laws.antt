@@ -5,11 +5,11 @@ use mathlib.Core.Path.{_≡_, refl, sym, ap, _∙_}
 use mathlib.Core.Bool.{Bool, true, false, cond, _&&_, _||_, true≢false, false≢true, or-true}
 use mathlib.Core.List.{List, [], _∷_}
 use lib.Dec.{eqb}
-use lib.ListN.{length, getD, take}
+use lib.ListN.{length, take}
 use borrow.Author.Tests.{eq-eqb, eqb-true}
 use Rattle.record.specs.declared.Record.{Record}
-use Rattle.verdict.specs.Verdict.{same, among, first, blank}
-use Rattle.verdict.specs.Facts.{Met, Unmet}
+use Rattle.verdict.specs.Verdict.{same, among, first}
+use Rattle.verdict.specs.Meaning.{nth, In}
 
 -- EQUAL RECORDS
 
@@ -72,35 +72,32 @@ same-false x y h = go (same x y) refl
 
 -- AMONG RECORDS, by their index
 
-abbrev pub at-index : List Record → ℕ → Record
-at-index l i = getD l i blank
-
-pub among-met : (x : Record) (l : List Record) → Met (length l) (at-index l) x → among x l ≡ true
+pub among-in : (x : Record) (l : List Record) → In x l → among x l ≡ true
 unfolding among
-among-met x [] m = absurd (not-suc-le-zero (m .1))
-among-met x (y ∷ l) (zero, h, e) = rw (same-true x y e)
-among-met x (y ∷ l) (suc j, h, e) = rw (among-met x l (j, le-of-suc-le-suc h, e)) (or-true (same x y))
+among-in x [] m = absurd (not-suc-le-zero (m .1))
+among-in x (y ∷ l) (zero, h, e) = rw (same-true x y e)
+among-in x (y ∷ l) (suc j, h, e) = rw (among-in x l (j, le-of-suc-le-suc h, e)) (or-true (same x y))
 
-pub among-unmet : (x : Record) (l : List Record) → Unmet (length l) (at-index l) x → among x l ≡ false
+pub among-not : (x : Record) (l : List Record) → (In x l → ⊥) → among x l ≡ false
 unfolding among
-among-unmet x [] u = refl
-among-unmet x (y ∷ l) u = rw (same-false x y (u 0 (suc-le-suc zero-le))) (among-unmet x l (λ j h. u (suc j) (suc-le-suc h)))
+among-not x [] u = refl
+among-not x (y ∷ l) u = rw (same-false x y (λ e. u (0, suc-le-suc zero-le, e))) (among-not x l (λ m. u (suc (m .0), suc-le-suc (m .1), m .2)))
 
-pub met-among : (x : Record) (l : List Record) → among x l ≡ true → Met (length l) (at-index l) x
+pub in-among : (x : Record) (l : List Record) → among x l ≡ true → In x l
 unfolding among
-met-among x [] h = absurd (false≢true h)
-met-among x (y ∷ l) h = go (same x y) refl h (met-among x l)
+in-among x [] h = absurd (false≢true h)
+in-among x (y ∷ l) h = go (same x y) refl h (in-among x l)
   where
-    go : (b : Bool) → same x y ≡ b → (b || among x l) ≡ true → (among x l ≡ true → Met (length l) (at-index l) x)
-        → Met (suc (length l)) (at-index (y ∷ l)) x
+    go : (b : Bool) → same x y ≡ b → (b || among x l) ≡ true → (among x l ≡ true → In x l)
+        → In x (y ∷ l)
     go true p q r = (0, suc-le-suc zero-le, same-equal x y p)
     go false p q r = let z = r q in (suc (z .0), suc-le-suc (z .1), z .2)
 
-pub unmet-among : (x : Record) (l : List Record) → among x l ≡ false → Unmet (length l) (at-index l) x
-unmet-among x l h j k e = true≢false (sym (among-met x l (j, k, e)) ∙ h)
+pub not-among : (x : Record) (l : List Record) → among x l ≡ false → In x l → ⊥
+not-among x l h m = true≢false (sym (among-in x l m) ∙ h)
 
-pub among-here : (l : List Record) (j : ℕ) → j < length l → among (at-index l j) l ≡ true
-among-here l j h = among-met (at-index l j) l (j, h, refl)
+pub among-here : (l : List Record) (j : ℕ) → j < length l → among (nth l j) l ≡ true
+among-here l j h = among-in (nth l j) l (j, h, refl)
 
 -- the records before an index
 pub take-length : (l : List Record) (i : ℕ) → i ≤ length l → length (take i l) ≡ i
@@ -108,7 +105,7 @@ take-length l zero h = refl
 take-length [] (suc i) h = absurd (not-suc-le-zero h)
 take-length (y ∷ l) (suc i) h = ap suc (take-length l i (le-of-suc-le-suc h))
 
-pub take-at : (l : List Record) (i j : ℕ) → j < i → at-index (take i l) j ≡ at-index l j
+pub take-at : (l : List Record) (i j : ℕ) → j < i → nth (take i l) j ≡ nth l j
 take-at l zero j h = absurd (not-suc-le-zero h)
 take-at [] (suc i) j h = refl
 take-at (y ∷ l) (suc i) zero h = refl
