@@ -1,3 +1,5 @@
 pub mod Laws
 pub mod Bridge
 pub mod Counts
+pub mod Read
+pub mod Cases
