@@ -1,6 +1,6 @@
 -- The records that a file holds: the front of a file is its first record, and what is behind it holds the others.
 use Prim.Native.Nat.{ℕ, zero, suc, _+_, _*_, _/_, _%_, _<_}
-use mathlib.Core.Path.{_≡_, refl, ap, ap₂, _∙_}
+use mathlib.Core.Path.{_≡_, refl, sym, ap, ap₂, _∙_}
 use mathlib.Core.Bool.{true}
 use mathlib.Core.List.{List, [], _∷_, _++_, List·Memᴰ, List·Memᴰ·head, List·Memᴰ·tail}
 use native.Mathlib.Nat.{le-of-suc-le-suc, not-suc-le-zero}
@@ -79,3 +79,14 @@ all-front (suc n) file b h =
 -- a file in whole records is the bytes of the records that it holds
 pub all-held : (file : List ℕ) → Bytes file → whole file ≡ true → encodedAll (held file) ≡ file
 all-held file b h = all-front (length file / 36) file b (omega (arith, eqb-true (length file % 36) 0 h))
+
+-- and the bytes at an index are those of the record there
+pub all-at : (rs : List Record) (d : Record) (i : ℕ) → i < length rs → take 36 (drop (36 * i) (encodedAll rs)) ≡ encoded (getD rs i d)
+unfolding encodedAll
+all-at [] d i h = absurd (not-suc-le-zero h)
+all-at (r ∷ rs) d zero h = take-at (encoded r) (encodedAll rs) 36 (encoded-length r)
+all-at (r ∷ rs) d (suc i) h =
+    let next : 36 * suc i ≡ 36 + 36 * i = omega arith in
+    ap (λ k. take 36 (drop k (encoded r ++ encodedAll rs))) next
+    ∙ ap (take 36) (sym (drop-drop (36 * i) 36 (encoded r ++ encodedAll rs)) ∙ ap (drop (36 * i)) (drop-at (encoded r) (encodedAll rs) 36 (encoded-length r)))
+    ∙ all-at rs d i (le-of-suc-le-suc h)

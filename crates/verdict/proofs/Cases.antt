@@ -1,5 +1,6 @@
 -- Each answer of the verdict is given exactly where the records are as it says: the tests of the definition decide what they name.
 use Prim.Native.Nat.{ℕ, _≤_, _<_}
+use native.Mathlib.Decide.{decLt}
 use native.Mathlib.Omega.{arith}
 use mathlib.Core.Path.{_≡_, refl, sym, ap, _∙_}
 use mathlib.Core.Logic.{_↔_, inl, inr}
@@ -159,3 +160,10 @@ module _ (rs fs : List Record) where
   -- the verdict is none of the other numbers
   pub verdict-number : (n : ℕ) → (n ≡ done → ⊥) → (n ≡ wrongRecord → ⊥) → (n ≡ lacking → ⊥) → verdict rs fs .number ≡ n → ⊥
   verdict-number n p q r = by-cases (λ v. v .number ≡ n → ⊥) (λ f e. q (sym e)) (λ f g e. r (sym e)) (λ f g e. p (sym e))
+
+  -- where there is a fault there is a first one
+  pub first-fault : (j : ℕ) → j < length fs → Faulty rs fs j → (i : ℕ) × (i ≤ j) × First (length fs) (Faulty rs fs) i
+  first-fault j h t = by-cases (λ r. (i : ℕ) × (i ≤ j) × First (length fs) (Faulty rs fs) i)
+      (λ f. (w, elim (decLt j w) [ yes l ↦ absurd (f .2 j l t) | no l ↦ omega arith ], f))
+      (λ f g. absurd (f j h t))
+      (λ f g. absurd (f j h t))

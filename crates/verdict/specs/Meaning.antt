@@ -1,12 +1,15 @@
 -- What the theorems say of a file and a reading. Here rs are the records of the reading, and fs those of the file.
-use Prim.Native.Nat.{ℕ, suc, _<_}
+use Prim.Native.Nat.{ℕ, suc, _*_, _<_}
 use mathlib.Core.Path.{_≡_}
 use mathlib.Core.Logic.{_⊎_}
 use mathlib.Core.Bool.{cond}
 use mathlib.Core.List.{List, [], _∷_, List·Permᴰ}
-use lib.ListN.{length, getD}
+use lib.ListN.{length, take, drop, getD}
+use Rattle.refusal.specs.Table.{refused, done}
 use Rattle.record.specs.declared.Record.{Record}
-use Rattle.verdict.specs.Verdict.{same, blank}
+use Rattle.file.specs.File.{encodedAll}
+use Rattle.grammar.specs.Reading.{records, reading}
+use Rattle.verdict.specs.Verdict.{same, blank, checked}
 
 -- the record at an index
 abbrev pub nth : List Record → ℕ → Record
@@ -54,3 +57,19 @@ AsOften fs gs = (x : Record) → count x fs ≡ count x gs
 -- this one after the other
 abbrev pub Permutation : List Record → List Record → Type 0
 Permutation fs gs = List·Permᴰ fs gs
+
+-- the file is the bytes of the reading's records in some order, each once, and of nothing else
+abbrev pub InSomeOrder : List Record → List ℕ → Type 0
+InSomeOrder rs file = (fs : List Record) × Permutation fs rs × (file ≡ encodedAll fs)
+
+-- the text s reads as the records rs
+abbrev pub Reads : List ℕ → List Record → Type 0
+Reads s rs = reading s ≡ records rs
+
+-- the file is accepted for the text s
+abbrev pub Accepted : List ℕ → List ℕ → Type 0
+Accepted s file = checked (reading s) file ≡ refused done 0 0
+
+-- the 36 bytes at an index of a file
+abbrev pub bytesAt : List ℕ → ℕ → List ℕ
+bytesAt file i = take 36 (drop (36 * i) file)
