@@ -13,7 +13,7 @@ use Rattle.refusal.specs.declared.Refusal.{Refusal}
 use Rattle.refusal.specs.Table.{refused, done, wrongRecord, lacking}
 use Rattle.record.specs.declared.Record.{Record}
 use Rattle.verdict.specs.Verdict.{among, first, wrong, lacks, verdict}
-use Rattle.verdict.specs.Meaning.{nth, In, Foreign, Repeated, Faulty, Lacking, First, None}
+use Rattle.verdict.specs.Meaning.{nth, In, Faulty, Lacking, First, None}
 use Rattle.verdict.proofs.Laws.{among-in, among-not, in-among, not-among, take-length, take-at, first-is, first-before, first-at}
 
 -- A TEST p THAT DECIDES P
@@ -75,7 +75,7 @@ module _ (rs fs : List Record) where
   unfolding lacks
   lacks-back k h f = rw (among-not (nth rs k) fs f)
 
-  -- the answers
+  -- THE ANSWERS
 
   abbrev NoFault : Type 0
   NoFault = None (length fs) (Faulty rs fs)
@@ -86,20 +86,18 @@ module _ (rs fs : List Record) where
   abbrev FirstLack : ℕ → Type 0
   FirstLack a = (k : ℕ) × First (length rs) (Lacking rs fs) k × (nth rs k .at ≡ a)
 
-  -- what an answer says of the records
   abbrev w : ℕ
   w = first (length fs) (wrong rs fs)
 
   abbrev k : ℕ
   k = first (length rs) (lacks rs fs)
 
-  abbrev Says : (Refusal → Type 0) → Type 0
-  Says Q = (First (length fs) (Faulty rs fs) w → Q (refused wrongRecord w 0))
+  -- what holds of the three answers where each is given holds of the verdict
+  by-cases : (Q : Refusal → Type 0)
+      → (First (length fs) (Faulty rs fs) w → Q (refused wrongRecord w 0))
       → (NoFault → First (length rs) (Lacking rs fs) k → Q (refused lacking (nth rs k .at) 0))
       → (NoFault → NoLack → Q (refused done 0 0))
       → Q (verdict rs fs)
-
-  by-cases : (Q : Refusal → Type 0) → Says Q
   unfolding verdict
   by-cases Q a b c = go (ltb w (length fs)) refl (ltb k (length rs)) refl
     where

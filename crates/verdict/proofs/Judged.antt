@@ -60,10 +60,9 @@ accepted-order s file e =
 
 -- a file that is the reading's records in some order holds them, and has the bytes of each at its index
 pub ordered-held : (s : List ℕ) (rs : List Record) (file : List ℕ) → Reads s rs → InSomeOrder rs file
-    → (fs : List Record) × Permutation (held file) rs × ((i : ℕ) → i < length (held file) → bytesAt file i ≡ encoded (nth (held file) i))
+    → Permutation (held file) rs × ((i : ℕ) → i < length (held file) → bytesAt file i ≡ encoded (nth (held file) i))
 ordered-held s rs file e (fs, p, f) =
     let h : held file ≡ fs = ap held f ∙ held-all fs (reading-fits s rs fs e p) in (
-      fs,
       rw h p,
       λ i l.
           let k : i < length fs = rw h at l in

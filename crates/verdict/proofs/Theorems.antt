@@ -86,18 +86,26 @@ pub agree : (s f g : List ℕ) (rs : List Record) → Reads s rs → InSomeOrder
     → (i j : ℕ) → i < length (held f) → j < length (held g) → nth (held f) i .at ≡ nth (held g) j .at
     → (nth (held f) i ≡ nth (held g) j) × (bytesAt f i ≡ bytesAt g j)
 agree s f g rs e x y i j h k t =
-    let (fs, p, u) = ordered-held s rs f e x in
-    let (gs, q, v) = ordered-held s rs g e y in
+    let (p, u) = ordered-held s rs f e x in
+    let (q, v) = ordered-held s rs g e y in
     let z : nth (held f) i ≡ nth (held g) j =
     one-at rs (reading-rises s rs e) (nth (held f) i) (nth (held g) j) (shared (held f) rs (as-often p) i h) (shared (held g) rs (as-often q) j k) t in
     (z, u i h ∙ ap encoded z ∙ sym (v j k))
+
+pub accepted-agree : (s f g : List ℕ) → Bytes f → Bytes g → Accepted s f → Accepted s g
+    → (i j : ℕ) → i < length (held f) → j < length (held g) → nth (held f) i .at ≡ nth (held g) j .at
+    → (nth (held f) i ≡ nth (held g) j) × (bytesAt f i ≡ bytesAt g j)
+accepted-agree s f g x y a b =
+    let (rs, p, o) = accepted-iff s f x .0 a in
+    let (qs, q, t) = accepted-iff s g y .0 b in
+    agree s f g rs p o (rw (one-reading s rs qs p q) t)
 
 -- and each record of the one is, byte for byte, one of the other
 pub found-again : (s f g : List ℕ) (rs : List Record) → Reads s rs → InSomeOrder rs f → InSomeOrder rs g
     → (i : ℕ) → i < length (held f) → (j : ℕ) × (j < length (held g)) × (bytesAt f i ≡ bytesAt g j)
 found-again s f g rs e x y i h =
-    let (fs, p, u) = ordered-held s rs f e x in
-    let (gs, q, v) = ordered-held s rs g e y in
+    let (p, u) = ordered-held s rs f e x in
+    let (q, v) = ordered-held s rs g e y in
     let (j, k, z) = shared (held f) (held g) (as-often (List·Permᴰ·trans p (Permᴰ·symm q))) i h in
     (j, k, u i h ∙ ap encoded z ∙ sym (v j k))
 

@@ -1,0 +1,56 @@
+-- THE STARRED EXAMPLES of the rules, on reading and on checking, as one table, each computed from the definition.
+use Prim.Native.Nat.{ℕ}
+use mathlib.Core.Path.{_≡_, refl}
+use mathlib.Core.List.{List, [], _∷_}
+use Rattle.text.specs.Text.{bytes}
+use Rattle.refusal.specs.Table.{refused as refusal}
+use Rattle.little.specs.Little.{little, number}
+use Rattle.record.specs.declared.Record.{Record}
+use Rattle.record.specs.Bytes.{encoded, decoded}
+use Rattle.record.specs.Made.{made, library}
+use Rattle.file.specs.File.{front, encodedAll}
+use Rattle.lexer.specs.Bytes.{classOf}
+use Rattle.lexer.specs.Run.{run}
+use Rattle.lexer.specs.Lex.{answers, from, head}
+use Rattle.lexer.specs.Screen.{screened}
+use Rattle.word.specs.Words.{keys, values, words, raised, upper, firstWhere, wordOf, isKey}
+use Rattle.word.specs.Words.{same as same-word}
+use Rattle.word.specs.Codes.{onOff, siteClasses, symmetries, macroClasses, directions, uses, shapes, antennaModels, antennaKeys, portClasses, layerOptions, valuesOf, placeOf, codeOf}
+use Rattle.grammar.specs.Tokens.{next, expect}
+use Rattle.grammar.specs.Engine.{get-key, expect-key, expect-keyword, expect-ident, parse-number, parse-enum, begins, goesOn, parse-second, empty, member, item, items}
+use Rattle.grammar.specs.Turns.{without, actFor, perform, peek-key, step, turn, turns}
+use Rattle.grammar.specs.Reading.{readAhead, reading}
+use Rattle.grammar.specs.Examples as Read
+use Rattle.verdict.specs.Verdict.{same, among, first, wrong, lacks, verdict, checked}
+
+-- the site of the listing, and its three records by their kinds
+abbrev site : List ℕ
+site = bytes "SITE s\nCLASS CORE ;\nSIZE 1.5 BY 2 ;\nEND s\nEND LIBRARY\n"
+
+abbrev r8 : Record
+r8 = made 8 0 0 library 5 1 0 0
+
+abbrev r9 : Record
+r9 = made 9 2 7 0 0 0 0 0
+
+abbrev r12 : Record
+r12 = made 12 0 20 0 0 0 1500000 2000000
+
+pub record Starred : Type 0 where
+  pub on-reading : Read.Starred
+  pub a-repeat : checked (reading site) (encodedAll (r8 ∷ r9 ∷ r9 ∷ [])) ≡ refusal 14 2 0
+  pub a-lack : checked (reading site) (encodedAll (r8 ∷ r9 ∷ [])) ≡ refusal 15 20 0
+
+pub starred : Starred
+unfolding little number encoded decoded front encodedAll classOf run answers from head screened keys values words raised upper firstWhere wordOf isKey same-word onOff siteClasses symmetries macroClasses directions uses shapes antennaModels antennaKeys portClasses layerOptions valuesOf placeOf codeOf next expect get-key expect-key expect-keyword expect-ident parse-number parse-enum begins goesOn parse-second empty member item items without actFor perform peek-key step turn turns readAhead reading same among first wrong lacks verdict
+starred = record { on-reading = Read.starred; a-repeat = refl; a-lack = refl }
+
+-- without a star: the order that the rules name, a file that is not whole, and a text that is refused before its file is
+pub record Worked : Type 0 where
+  pub another-order : checked (reading site) (encodedAll (r12 ∷ r8 ∷ r9 ∷ [])) ≡ refusal 0 0 0
+  pub not-whole : checked (reading site) (0 ∷ encodedAll (r8 ∷ [])) ≡ refusal 13 37 0
+  pub text-first : checked (reading (bytes "")) (0 ∷ []) ≡ refusal 4 0 1
+
+pub worked : Worked
+unfolding little number encoded decoded front encodedAll classOf run answers from head screened keys values words raised upper firstWhere wordOf isKey same-word onOff siteClasses symmetries macroClasses directions uses shapes antennaModels antennaKeys portClasses layerOptions valuesOf placeOf codeOf next expect get-key expect-key expect-keyword expect-ident parse-number parse-enum begins goesOn parse-second empty member item items without actFor perform peek-key step turn turns readAhead reading same among first wrong lacks verdict
+worked = record { another-order = refl; not-whole = refl; text-first = refl }
