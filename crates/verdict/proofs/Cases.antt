@@ -3,7 +3,7 @@ use Prim.Native.Nat.{ℕ, _≤_, _<_}
 use native.Mathlib.Decide.{decLt}
 use native.Mathlib.Omega.{arith}
 use mathlib.Core.Path.{_≡_, refl, sym, ap, _∙_}
-use mathlib.Core.Logic.{_↔_, inl, inr}
+use mathlib.Core.Logic.{_↔_, _⊎_, inl, inr}
 use mathlib.Core.Bool.{Bool, true, false, cond, not, _||_, true≢false, false≢true, or-true}
 use mathlib.Core.List.{List}
 use lib.Dec.{ltb}
@@ -158,6 +158,13 @@ module _ (rs fs : List Record) where
   -- the verdict is none of the other numbers
   pub verdict-number : (n : ℕ) → (n ≡ done → ⊥) → (n ≡ wrongRecord → ⊥) → (n ≡ lacking → ⊥) → verdict rs fs .number ≡ n → ⊥
   verdict-number n p q r = by-cases (λ v. v .number ≡ n → ⊥) (λ f e. q (sym e)) (λ f g e. r (sym e)) (λ f g e. p (sym e))
+
+  -- the verdict is one of the three
+  pub verdict-one-of : ((i : ℕ) × (verdict rs fs ≡ refused wrongRecord i 0)) ⊎ (((a : ℕ) × (verdict rs fs ≡ refused lacking a 0)) ⊎ (verdict rs fs ≡ refused done 0 0))
+  verdict-one-of = by-cases (λ r. ((i : ℕ) × (r ≡ refused wrongRecord i 0)) ⊎ (((a : ℕ) × (r ≡ refused lacking a 0)) ⊎ (r ≡ refused done 0 0)))
+      (λ f. inl (w, refl))
+      (λ f g. inr (inl (nth rs k .at, refl)))
+      (λ f g. inr (inr refl))
 
   -- where there is a fault there is a first one
   pub first-fault : (j : ℕ) → j < length fs → Faulty rs fs j → (i : ℕ) × (i ≤ j) × First (length fs) (Faulty rs fs) i

@@ -3,7 +3,6 @@ use Prim.Native.Nat.{ℕ, zero, suc, _≤_, _<_, zero-le, suc-le-suc}
 use native.Mathlib.Nat.{le-of-suc-le-suc, not-suc-le-zero}
 use native.Mathlib.Omega.{arith}
 use mathlib.Core.Path.{_≡_, refl, sym, ap, _∙_}
-use mathlib.Core.Logic.{_↔_}
 use mathlib.Core.Bool.{Bool, true, false, cond, _||_, true≢false, false≢true}
 use mathlib.Core.List.{List, [], _∷_, List·Permᴰ·nil, List·Permᴰ·cons, List·Permᴰ·swap, List·Permᴰ·trans, Permᴰ·refl}
 use lib.ListN.{length, take}
@@ -138,7 +137,3 @@ reordered [] (y ∷ l) h = absurd (omega (arith, h y, count-self y l, nothing y)
 reordered (x ∷ k) l h =
     let z = pulled x l (count-among x l (omega (arith, h x, count-self x k))) in
     List·Permᴰ·trans (List·Permᴰ·cons refl (reordered k (z .others) (λ y. less-head y x k (z .others) (h y ∙ sym (as-often (z .order) y))))) (z .order)
-
--- the two notions are one
-pub permutation-iff : (k l : List Record) → Permutation k l ↔ AsOften k l
-permutation-iff k l = (as-often, reordered k l)

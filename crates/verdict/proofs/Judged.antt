@@ -2,10 +2,11 @@
 use Prim.Native.Nat.{ℕ, _≤_, _<_}
 use native.Mathlib.Omega.{arith}
 use mathlib.Core.Path.{_≡_, refl, sym, ap, _∙_}
-use mathlib.Core.Logic.{_↔_}
+use mathlib.Core.Logic.{_↔_, _⊎_, inl, inr}
 use mathlib.Core.Bool.{Bool, true, false, cond}
 use mathlib.Core.List.{List}
 use lib.ListN.{length}
+use Rattle.refusal.specs.declared.Refusal.{Refusal}
 use Rattle.refusal.specs.Table.{refused, done, notWhole}
 use Rattle.record.specs.declared.Record.{Record}
 use Rattle.record.specs.Bytes.{encoded}
@@ -13,9 +14,9 @@ use Rattle.file.specs.File.{whole, held}
 use Rattle.file.proofs.Held.{held-all, all-at}
 use Rattle.grammar.specs.Reading.{Reading, records, refusal-of, reading}
 use Rattle.verdict.specs.Verdict.{blank, verdict, checked}
-use Rattle.verdict.specs.Meaning.{nth, Permutation, InSomeOrder, Reads, Accepted, bytesAt}
+use Rattle.verdict.specs.Meaning.{nth, Permutation, InSomeOrder, Reads, Accepted, OfFile, bytesAt}
 use Rattle.verdict.proofs.Read.{reading-rises, reading-fits, refusal-low}
-use Rattle.verdict.proofs.Cases.{verdict-number}
+use Rattle.verdict.proofs.Cases.{verdict-number, verdict-one-of}
 use Rattle.verdict.proofs.Orders.{order-iff}
 
 module _ (s file : List ℕ) (n p : ℕ) (late : 1 ≤ n → 10 < n) (other : n ≡ notWhole → ⊥) where
@@ -47,6 +48,15 @@ module _ (s file : List ℕ) (p : ℕ) where
       go : (b : Bool) → whole file ≡ b → cond b (verdict rs (held file)) (refused notWhole (length file) 0) ≡ refused notWhole p 0 → Long
       go true w q = absurd (verdict-number rs (held file) notWhole (λ z. omega arith) (λ z. omega arith) (λ z. omega arith) (ap (λ r. r .number) q))
       go false w q = (rs, e, w, ap (λ r. r .place) q)
+
+-- a text that reads gets one of the four
+pub of-reading : (o : Reading) (file : List ℕ) → ((r : Refusal) × (o ≡ refusal-of r)) ⊎ OfFile file (checked o file)
+of-reading (refusal-of r) file = inl (r, refl)
+of-reading (records rs) file = inr (go (whole file))
+  where
+    go : (b : Bool) → OfFile file (cond b (verdict rs (held file)) (refused notWhole (length file) 0))
+    go true = inr (verdict-one-of rs (held file))
+    go false = inl refl
 
 -- ACCEPTED FILES
 

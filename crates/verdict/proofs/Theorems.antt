@@ -2,7 +2,7 @@
 use Prim.Native.Nat.{ℕ, _≤_, _<_}
 use native.Mathlib.Omega.{arith}
 use mathlib.Core.Path.{_≡_, refl, sym, ap, _∙_}
-use mathlib.Core.Logic.{_↔_, inr, ⊎-elim}
+use mathlib.Core.Logic.{_↔_, _⊎_, inr, ⊎-elim}
 use mathlib.Core.Bool.{true, false}
 use mathlib.Core.List.{List, Permᴰ·refl, Permᴰ·symm, List·Permᴰ·trans}
 use lib.ListN.{length}
@@ -15,16 +15,20 @@ use Rattle.file.specs.File.{whole, held, encodedAll}
 use Rattle.file.proofs.Held.{all-whole, held-all, all-held}
 use Rattle.grammar.specs.Reading.{refusal-of, reading}
 use Rattle.verdict.specs.Verdict.{verdict, checked}
-use Rattle.verdict.specs.Meaning.{nth, In, Repeated, Faulty, Lacking, First, None, AsOften, Permutation, InSomeOrder, Reads, Accepted, bytesAt}
-use Rattle.verdict.proofs.Counts.{as-often}
+use Rattle.verdict.specs.Meaning.{nth, In, Repeated, Faulty, Lacking, First, None, AsOften, Permutation, InSomeOrder, Reads, Accepted, OfFile, bytesAt}
+use Rattle.verdict.proofs.Counts.{as-often, reordered}
 use Rattle.verdict.proofs.Read.{reading-rises, reading-fits}
 use Rattle.verdict.proofs.Cases.{wrong-iff, lacking-iff, first-fault}
 use Rattle.verdict.proofs.Orders.{shared, order-iff, one-at}
-use Rattle.verdict.proofs.Judged.{to-length, by-verdict, one-reading, accepted-order, ordered-held}
+use Rattle.verdict.proofs.Judged.{of-reading, to-length, by-verdict, one-reading, accepted-order, ordered-held}
 
 -- THE TEXT'S OWN REFUSAL comes first
 pub refused-first : (s file : List ℕ) (r : Refusal) → reading s ≡ refusal-of r → checked (reading s) file ≡ r
 refused-first s file r e = rw e
+
+-- the answer is the text's own refusal, 13, 14, 15 or 0, whatever the text and the file
+pub one-of-five : (s file : List ℕ) → ((r : Refusal) × (reading s ≡ refusal-of r)) ⊎ OfFile file (checked (reading s) file)
+one-of-five s file = of-reading (reading s) file
 
 -- 13: the text reads, and the file is no multiple of 36 bytes; place: its length
 pub not-whole-says : (s file : List ℕ) (p : ℕ)
@@ -69,6 +73,10 @@ reading-accepted s rs q =
     let f : held (encodedAll rs) ≡ rs = held-all rs (reading-fits s rs rs q (Permᴰ·refl rs)) in
     by-verdict s (encodedAll rs) done 0 (λ h. omega arith) (λ h. omega arith)
     .1 (rs, q, all-whole rs, ap (verdict rs) f ∙ order-iff rs rs (reading-rises s rs q) .1 (Permᴰ·refl rs))
+
+-- being the same in some order is having each record equally often
+pub permutation-iff : (k l : List Record) → Permutation k l ↔ AsOften k l
+permutation-iff k l = (as-often, reordered k l)
 
 -- AGREEMENT of two files that are the reading's records in some order, as accepted files are
 

@@ -5,7 +5,8 @@ use mathlib.Core.Logic.{_⊎_}
 use mathlib.Core.Bool.{cond}
 use mathlib.Core.List.{List, [], _∷_, List·Permᴰ}
 use lib.ListN.{length, take, drop, getD}
-use Rattle.refusal.specs.Table.{refused, done}
+use Rattle.refusal.specs.declared.Refusal.{Refusal}
+use Rattle.refusal.specs.Table.{refused, done, notWhole, wrongRecord, lacking}
 use Rattle.record.specs.declared.Record.{Record}
 use Rattle.file.specs.File.{encodedAll}
 use Rattle.grammar.specs.Reading.{records, reading}
@@ -69,6 +70,12 @@ Reads s rs = reading s ≡ records rs
 -- the file is accepted for the text s
 abbrev pub Accepted : List ℕ → List ℕ → Type 0
 Accepted s file = checked (reading s) file ≡ refused done 0 0
+
+-- an answer to a text that reads: 13 with the file's length, 14, 15 or 0
+abbrev pub OfFile : List ℕ → Refusal → Type 0
+OfFile file r =
+    (r ≡ refused notWhole (length file) 0)
+    ⊎ (((i : ℕ) × (r ≡ refused wrongRecord i 0)) ⊎ (((a : ℕ) × (r ≡ refused lacking a 0)) ⊎ (r ≡ refused done 0 0)))
 
 -- the 36 bytes at an index of a file
 abbrev pub bytesAt : List ℕ → ℕ → List ℕ
