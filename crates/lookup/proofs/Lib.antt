@@ -1,0 +1,5 @@
+mod Fields
+mod Held
+pub mod First
+pub mod Force
+mod Best

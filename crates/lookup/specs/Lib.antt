@@ -1,0 +1,3 @@
+pub mod First
+pub mod Force
+pub mod Name
