@@ -3,3 +3,6 @@ mod Held
 pub mod First
 pub mod Force
 mod Best
+pub mod Owned
+mod Search
+mod Steps

@@ -1,3 +1,4 @@
 pub mod First
 pub mod Force
 pub mod Name
+pub mod Chain

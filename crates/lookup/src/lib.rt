@@ -1,12 +1,14 @@
 // Look-ups on a record file alone: the record in force, a record's name, and how many owners a record has.
 ghost use mathlib.Core.Path.{_≡_};
-ghost use Prim.Native.Nat.{_+_, _*_, _/_, _≤_, _<_};
+ghost use mathlib.Core.Option.{Option·getD};
+ghost use Prim.Native.Nat.{_+_, _/_, _≤_, _<_};
 ghost use lib.ListN.{length, getD};
 ghost use Rattle.record.specs.Bytes.{field};
-ghost use Rattle.lookup.specs.First.{bytesAt, recordIn};
 ghost use Rattle.file.specs.File.{held};
-ghost use Rattle.lookup.specs.Name.{part, nameAt};
+ghost use Rattle.lookup.specs.First.{first, bytesAt, recordIn};
 ghost use Rattle.lookup.specs.Force.{allCount, sameOption, asked, latest, told, inForce};
+ghost use Rattle.lookup.specs.Name.{part, nameAt};
+ghost use Rattle.lookup.specs.Chain.{isAt, ownersOf, owners};
 use file::Found;
 use record::Record;
 use record::code;
@@ -17,6 +19,12 @@ use refusal::Refusal;
 pub enum InForce {
     At(usize),
     None,
+    Refused(Refusal),
+}
+
+// How many owners a record has.
+pub enum Chain {
+    Count(usize),
     Refused(Refusal),
 }
 
@@ -76,7 +84,7 @@ fn is_asked(file: &[u8], index: usize, owner: usize, kind: u8, code: u8) -> bool
     same_option(code, byte(file, index, Record::CODE))
 }
 
-// The latest of the records that are asked for, the first of them on a tie.
+// The latest of the records that are asked for, the first of them on a tie. `above` is more than the `at` of each so far.
 fn latest(file: &[u8], owner: usize, kind: u8, code: u8) -> InForce
     ensures { λ r. ⌜ r ≡ told (latest (asked owner kind code) (held (now (file .entry)))) ⌝ }
 {
@@ -136,4 +144,49 @@ fn part(text: &[u8], start: usize, len: usize) -> &[u8]
     }
     let stop = start + len;
     &text[start..stop]
+}
+
+// The index of the first record that starts at the place, or how many records there are where none does.
+fn first_at(file: &[u8], place: usize) -> usize
+    ensures { λ r. ⌜ r ≡ Option·getD (first (isAt place) (held (now (file .entry)))) (length (now (file .entry)) / 36) ⌝ }
+{
+    let count = file.len() / Record::SIZE;
+    let mut i = 0;
+    while i < count {
+        if word(file, i, Record::AT) == place {
+            return i;
+        }
+        i += 1;
+    }
+    count
+}
+
+// So many owners, and those of the record at the index: up the enclosing blocks, whose `at` falls.
+fn climb(file: &[u8], index: usize, count: usize) -> usize
+    requires { ⌜ (index < length (now file) / 36) × (count + recordIn (now file) index .at < 4294967296) ⌝ }
+    ensures { λ r. ⌜ r ≡ count + ownersOf (held (now (file .entry))) (recordIn (now (file .entry)) index) ⌝ }
+{
+    let at = word(file, index, Record::AT);
+    let owner = word(file, index, Record::OWNER);
+    if at <= owner {
+        return count;
+    }
+    let next = first_at(file, owner);
+    if file.len() / Record::SIZE <= next {
+        return count;
+    }
+    climb(file, next, count + 1)
+}
+
+// How many owners the record at the index has, out to the library.
+pub fn owners(file: &[u8], index: usize) -> Chain
+    ensures { λ r. ⌜ r ≡ owners (now (file .entry)) index ⌝ }
+{
+    if file.len() % Record::SIZE != 0 {
+        return Chain::Refused(Refusal::not_whole(file.len()));
+    }
+    if file.len() / Record::SIZE <= index {
+        return Chain::Count(0);
+    }
+    Chain::Count(climb(file, index, 0))
 }

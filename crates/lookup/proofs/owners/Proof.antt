@@ -1,0 +1,34 @@
+-- `lookup::owners` meets its contract: its tests are those of `owners`, and what is climbed from the record is the rest of it.
+use mathlib.Core.Path.{ap, _∙_}
+use borrow.Author.Needs.{needs}
+use borrow.Author.Tests.{eq-eqb, ne-eqb, lt-ltb, le-ltb}
+use native.Mathlib.Nat.{zero-add}
+use native.Mathlib.Omega.{arith}
+use Rattle.file.specs.File.{recordAt}
+use Rattle.lookup.specs.declared.Chain.{Chain}
+use Rattle.lookup.specs.Chain.{owners}
+use Rattle.lookup.proofs.Fields.{at-small}
+use Rattle.lookup.proofs.owners.Statement.{statement}
+use Rattle.lookup.proofs.owners.Tie as tie
+
+returns : tie.Need-returns
+unfolding owners
+returns c = rw (ne-eqb _ _ (c .before .if1 .taken)) (ap Chain.Refused (c .not-whole .ensures))
+
+returns-2 : tie.Need-returns-2
+unfolding owners recordAt
+returns-2 c = rw (eq-eqb _ _ (c .before .if1 .left), le-ltb _ _ (c .if2 .taken))
+
+climb-requires : tie.Need-climb-requires
+climb-requires c κs =
+    let a = c .before .before .before .args in
+    (c .if2 .left, omega (arith, at-small (a .file .now) (a .index) (λ i. c .before .before .shared-slice-known .given i .fits)))
+
+returns-3 : tie.Need-returns-3
+unfolding owners recordAt
+returns-3 c =
+    rw (eq-eqb _ _ (c .before .before .if1 .left), lt-ltb _ _ (c .before .if2 .left)) (ap Chain.Count (c .climb .ensures ∙ zero-add _))
+
+pub owners-spec : {M : Type 1} → statement M
+owners-spec =
+    tie.close (tie.spec (λ c κs. search needs) returns returns-2 climb-requires returns-3)
