@@ -140,7 +140,7 @@ fn part(text: &[u8], start: usize, len: usize) -> &[u8]
         return &text[0..0];
     }
     if text.len() - start < len {
-        return &text[0..0];
+        return &text[start..start];
     }
     let stop = start + len;
     &text[start..stop]

@@ -18,7 +18,8 @@ part-spec =
     rw (lt-leb (a .start + a .len) (length (a .text .now)) (omega arith)))
     (λ c. search needs) (λ c. search needs) (λ c. search needs) (λ c. search needs)
     (λ c. let a = c .before .before .before .args in
-    rw (lt-leb (a .start + a .len) (length (a .text .now)) (omega arith)))
+    let none : a .start - a .start ≡ 0 = omega arith in
+    rw (lt-leb (a .start + a .len) (length (a .text .now)) (omega arith), none))
     (λ c. search needs) (λ c. search needs) (λ c. search needs) (λ c. search needs)
     (λ c. let a = c .before .before .before .args in
     let wide : a .start + a .len - a .start ≡ a .len = omega arith in
