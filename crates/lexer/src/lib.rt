@@ -15,22 +15,23 @@ mod scan;
 use scan::Class;
 use scan::Run;
 
-// A token: its kind, the places of its first byte and of the byte after its last, and the line of its first byte.
+// A token: its kind, the places of its first byte and of the byte after its last, and the line of its first byte. The kind has a
+// whole word, since what pads a byte is copied in pieces wherever the token goes.
 pub struct Token {
-    pub kind: u8,
+    pub kind: usize,
     pub start: usize,
     pub stop: usize,
     pub line: usize,
 }
 
 impl Token {
-    pub const NAME: u8 = 1;
+    pub const NAME: usize = 1;
 
-    pub const NUMBER: u8 = 2;
+    pub const NUMBER: usize = 2;
 
-    pub const SEMICOLON: u8 = 3;
+    pub const SEMICOLON: usize = 3;
 
-    pub const STRING_LITERAL: u8 = 4;
+    pub const STRING_LITERAL: usize = 4;
 }
 
 // What the lexer finds next: a token, the end of the text with its line, or the place and line of a byte that starts no token.
@@ -181,7 +182,7 @@ fn past_quote(text: &[u8], at: usize) -> usize
     }
 }
 
-fn emit(kind: u8, start: usize, stop: usize, line: usize) -> Lexed
+fn emit(kind: usize, start: usize, stop: usize, line: usize) -> Lexed
     ensures { λ r. ⌜ r ≡ token kind start stop line ⌝ }
 {
     Lexed::Found(Token {

@@ -34,7 +34,7 @@ pub enum Word {
 }
 
 // A complaint while the token is held.
-pub fn complain(number: u8, held: Token) -> Refusal
+pub fn complain(number: usize, held: Token) -> Refusal
     ensures { λ r. ⌜ r ≡ complaint number held ⌝ }
 {
     Refusal {
@@ -71,7 +71,7 @@ pub fn token_from(text: &[u8], place: usize, line: usize) -> Taken
     }
 }
 
-pub fn expect(text: &[u8], held: Token, kind: u8) -> Taken
+pub fn expect(text: &[u8], held: Token, kind: usize) -> Taken
     ensures { λ r. ⌜ asTaken (now (text .entry)) held r ≡ expect kind (aheadOf (now (text .entry)) held) ⌝ }
 {
     let answer = next_token(text, held);

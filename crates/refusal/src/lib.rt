@@ -3,28 +3,29 @@
 ghost use mathlib.Core.Path.{_≡_};
 ghost use Rattle.refusal.specs.Table.{refused, done, tooLong, notAscii, noToken, recordRoom, notWhole, wrongRecord, lacking};
 
+// The number has a whole word, so that a token and a refusal lie alike in an answer that is the one or the other.
 pub struct Refusal {
-    pub number: u8,
+    pub number: usize,
     pub place: usize,
     pub line: usize,
 }
 
 impl Refusal {
-    pub const DONE: u8 = 0;
+    pub const DONE: usize = 0;
 
-    pub const TOO_LONG: u8 = 1;
+    pub const TOO_LONG: usize = 1;
 
-    pub const NOT_ASCII: u8 = 2;
+    pub const NOT_ASCII: usize = 2;
 
-    pub const NO_TOKEN: u8 = 3;
+    pub const NO_TOKEN: usize = 3;
 
-    pub const RECORD_ROOM: u8 = 11;
+    pub const RECORD_ROOM: usize = 11;
 
-    pub const NOT_WHOLE: u8 = 13;
+    pub const NOT_WHOLE: usize = 13;
 
-    pub const WRONG_RECORD: u8 = 14;
+    pub const WRONG_RECORD: usize = 14;
 
-    pub const LACKING: u8 = 15;
+    pub const LACKING: usize = 15;
 
     // No refusal: the call is done, with so many records or bytes.
     pub fn done(count: usize) -> Self

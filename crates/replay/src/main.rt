@@ -99,7 +99,7 @@ fn wide(b: u8) -> usize {
     b as usize
 }
 
-fn six(refusal: u8, place: usize, line: usize, kind: u8, start: usize, stop: usize) {
+fn six(refusal: usize, place: usize, line: usize, kind: usize, start: usize, stop: usize) {
     say::number(refusal as u64);
     say::number(place as u64);
     say::number(line as u64);
