@@ -2,7 +2,7 @@
 // bits that a record stores for a value.
 ghost use Prim.Native.Nat.{_≤_, _<_, _+_, _-_, _*_, _^_};
 ghost use mathlib.Core.Path.{_≡_};
-ghost use mathlib.Core.Bool.{true};
+ghost use mathlib.Core.Bool.{true, cond};
 ghost use lib.ListN.{length, drop};
 ghost use lib.Seq.{sets};
 ghost use Rattle.numeral.specs.Numeral.{numeralOf, limit, digit};
@@ -137,6 +137,13 @@ fn unsigned(part: &[u8], from: usize, negative: bool) -> Value
     finish(negative, empty, 6, x)
 }
 
+// Where the digits start.
+fn past_minus(negative: bool) -> usize
+    ensures { λ r. ⌜ r ≡ cond negative 1 0 ⌝ }
+{
+    if negative { 1 } else { 0 }
+}
+
 // What a byte string says as a numeral.
 pub fn numeral(part: &[u8]) -> Value
     ensures { λ v. ⌜ v ≡ numeralOf (now (part .entry)) ⌝ }
@@ -144,10 +151,8 @@ pub fn numeral(part: &[u8]) -> Value
     if part.len() == 0 {
         return Value::Not;
     }
-    if part[0] == b'-' {
-        return unsigned(part, 1, true);
-    }
-    unsigned(part, 0, false)
+    let negative = part[0] == b'-';
+    unsigned(part, past_minus(negative), negative)
 }
 
 // Whether a number is below nought: minus nought is not.

@@ -1,11 +1,12 @@
 -- `numeral::numeral` meets its contract: no byte, a minus first, or another byte first.
-use Prim.Native.Nat.{ℕ, _<_}
+use Prim.Native.Nat.{ℕ, _≤_, _<_}
 use mathlib.Core.Path.{_≡_, refl, sym, _∙_}
 use mathlib.Core.List.{List, [], _∷_}
-use mathlib.Core.Bool.{true, false}
+use mathlib.Core.Bool.{Bool, true, false, cond}
 use borrow.Author.Needs.{needs}
-use borrow.Author.Tests.{eq-eqb, ne-eqb}
+use borrow.Author.Tests.{eq-eqb, ne-eqb, eqb-true, eqb-false}
 use native.Mathlib.Omega.{arith}
+use lib.Dec.{eqb}
 use lib.ListN.{length, drop, getD}
 use Rattle.numeral.specs.declared.Value.the-variants.{Not}
 use Rattle.numeral.specs.Numeral.{unsignedOf, numeralOf}
@@ -25,35 +26,22 @@ plain : (s : List ℕ) → 0 < length s → (getD s 0 0 ≡ 45 → ⊥) → unsi
 plain [] h e = absurd (omega arith)
 plain (b ∷ s) h e = simp (ne-eqb b 45 e)
 
-returns : tie.Need-returns
-returns c = sym (nothing (c .before .before .args .part .now) (c .if1 .taken))
+either : (s : List ℕ) → 0 < length s → (n : Bool) → eqb (getD s 0 0) 45 ≡ n → unsignedOf n (drop (cond n 1 0) s) ≡ numeralOf s
+either s h true e = minus s h (eqb-true _ _ e)
+either s h false e = plain s h (eqb-false _ _ e)
 
-shared-slice-read-if2 : tie.Need-shared-slice-read-if2
-shared-slice-read-if2 c = search needs
-
-unsigned-requires : tie.Need-unsigned-requires
-unsigned-requires c κs = search needs
-
-returns-2 : tie.Need-returns-2
-returns-2 c =
-    let part = c .before .before .before .before .before .args .part .now in
-    c .unsigned .ensures ∙ reads true (drop 1 part) ∙ minus part (omega arith) (c .before .if2 .taken)
-
-unsigned-requires-2 : tie.Need-unsigned-requires-2
-unsigned-requires-2 c κs = search needs
-
-returns-3 : tie.Need-returns-3
-returns-3 c =
-    let part = c .before .before .before .before .before .args .part .now in
-    c .unsigned2 .ensures ∙ reads false part ∙ plain part (omega arith) (c .before .if2 .left)
+at-most-one : (n : Bool) → cond n 1 0 ≤ 1
+at-most-one true = omega arith
+at-most-one false = omega arith
 
 pub numeral-spec : {M : Type 1} → statement M
 numeral-spec =
     tie.close
     (tie.spec
-    returns
-    shared-slice-read-if2
-    unsigned-requires
-    returns-2
-    unsigned-requires-2
-    returns-3)
+    (λ c. sym (nothing (c .before .before .args .part .now) (c .if1 .taken)))
+    (λ c. search needs)
+    (λ c κs. tt)
+    (λ c κs. omega (arith, c .past-minus .ensures, at-most-one (eqb (getD (c .before .before .before .before .args .part .now) 0 0) 45)))
+    (λ c. let part = c .before .before .before .before .before .args .part .now in
+    let n = eqb (getD part 0 0) 45 in
+    c .unsigned .ensures ∙ rw (c .before .past-minus .ensures) (reads n (drop (cond n 1 0) part) ∙ either part (omega arith) n refl)))
