@@ -32,9 +32,16 @@ unfoldable pub encodedAll : List Record → List ℕ
 encodedAll [] = []
 encodedAll (r ∷ rs) = encoded r ++ encodedAll rs
 
--- the record at an index of a file
+-- the 36 bytes at an index of a file, and the record that they give
+abbrev pub bytesAt : List ℕ → ℕ → List ℕ
+bytesAt file index = take 36 (drop (36 * index) file)
+
+abbrev pub recordIn : List ℕ → ℕ → Record
+recordIn file index = decoded (bytesAt file index)
+
+-- the record at an index of a file, if there is one
 unfoldable pub recordAt : List ℕ → ℕ → Found
-recordAt file index = cond (hasRoom file index) (At (decoded (take 36 (drop (36 * index) file)))) Past
+recordAt file index = cond (hasRoom file index) (At (recordIn file index)) Past
 
 -- the file with the record at the index, where it has room there, and otherwise as it was
 unfoldable pub stored : Record → ℕ → List ℕ → List ℕ

@@ -8,9 +8,8 @@ use native.Mathlib.Omega.{arith}
 use borrow.Author.Count.{below-more}
 use lib.ListN.{length, getElem?}
 use Rattle.record.specs.declared.Record.{Record}
-use Rattle.file.specs.File.{held}
-use Rattle.lookup.specs.First.{recordIn}
-use Rattle.lookup.specs.Force.{latest, Latest}
+use Rattle.file.specs.File.{held, recordIn}
+use Rattle.lookup.specs.Force.{latest}
 use Rattle.lookup.proofs.Held.{held-here, held-below, held-is}
 use Rattle.lookup.proofs.Force.{is-latest, no-latest}
 

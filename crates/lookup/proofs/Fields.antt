@@ -9,7 +9,7 @@ use lib.Seq.{take-take, drop-drop, getD-take, getD-drop}
 use Rattle.little.specs.Little.{number, Bytes}
 use Rattle.little.proofs.Laws.{take-bytes, drop-bytes}
 use Rattle.record.specs.Bytes.{decoded}
-use Rattle.lookup.specs.First.{bytesAt, recordIn}
+use Rattle.file.specs.File.{bytesAt, recordIn}
 
 -- a part of a front is that part of the whole
 part : (o n m : ℕ) (l : List ℕ) → o + n ≤ m → take n (drop o (take m l)) ≡ take n (drop o l)

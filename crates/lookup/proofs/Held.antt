@@ -9,8 +9,7 @@ use lib.ListN.{length, take, drop, getElem?}
 use lib.Seq.{drop-drop}
 use Rattle.record.specs.declared.Record.{Record}
 use Rattle.record.specs.Bytes.{decoded}
-use Rattle.file.specs.File.{front, held}
-use Rattle.lookup.specs.First.{recordIn}
+use Rattle.file.specs.File.{front, held, recordIn}
 
 front-here : (n : ℕ) (file : List ℕ) (i : ℕ) → i < n → getElem? (front n file) i ≡ some (recordIn file i)
 unfolding front

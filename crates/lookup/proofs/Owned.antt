@@ -1,7 +1,7 @@
 -- The chain of owners by its own equation: a record without an owner has 0, and one with an owner has one more than that owner. It is
 -- the only count of which this holds, since `at` falls from a record to its owner.
 use Prim.Native.Nat.{ℕ, zero, suc, _≤_, _<_}
-use mathlib.Core.Path.{_≡_, refl, sym, ap, _∙_}
+use mathlib.Core.Path.{_≡_, refl, ap, _∙_}
 use mathlib.Core.Bool.{Bool, true, false, cond}
 use mathlib.Core.List.{List, [], _∷_}
 use mathlib.Core.Option.{Option, none, some, Option·map, Option·none-ne-some}

@@ -8,8 +8,8 @@ use native.Mathlib.Omega.{arith}
 use borrow.Author.Tests.{lt-ltb}
 use lib.ListN.{length}
 use Rattle.record.specs.declared.Record.{Record}
-use Rattle.file.specs.File.{held}
-use Rattle.lookup.specs.First.{first, recordIn}
+use Rattle.file.specs.File.{held, recordIn}
+use Rattle.lookup.specs.First.{first}
 use Rattle.lookup.specs.Chain.{isAt, atIndex, ownerOf}
 use Rattle.lookup.proofs.Held.{held-here, held-past, held-below, held-is}
 use Rattle.lookup.proofs.First.{is-first, no-first}

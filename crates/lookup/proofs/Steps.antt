@@ -1,13 +1,13 @@
 -- A step up the chain of owners, by the numbers that the code has: the record's `at` and owner, and the index of the owner.
-use Prim.Native.Nat.{ℕ, suc, _+_, _/_, _≤_, _<_}
-use mathlib.Core.Path.{_≡_, sym, ap, _∙_}
+use Prim.Native.Nat.{ℕ, _+_, _/_, _≤_, _<_}
+use mathlib.Core.Path.{_≡_, ap, _∙_}
 use mathlib.Core.List.{List}
 use mathlib.Core.Option.{Option·getD}
 use native.Mathlib.Omega.{arith}
 use lib.ListN.{length}
 use Rattle.record.specs.declared.Record.{Record}
-use Rattle.file.specs.File.{held}
-use Rattle.lookup.specs.First.{first, recordIn}
+use Rattle.file.specs.File.{held, recordIn}
+use Rattle.lookup.specs.First.{first}
 use Rattle.lookup.specs.Chain.{isAt, ownersOf}
 use Rattle.lookup.proofs.Owned.{owner-below, not-below, no-owner, one-owner}
 use Rattle.lookup.proofs.Search.{owner-there, owner-lacks}

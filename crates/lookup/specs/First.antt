@@ -1,11 +1,9 @@
 -- Records by a test: the first of which it holds, and the greatest `at` of those of which it holds.
-use Prim.Native.Nat.{ℕ, suc, max, _*_}
+use Prim.Native.Nat.{ℕ, suc, max}
 use mathlib.Core.Bool.{Bool, cond}
 use mathlib.Core.List.{List, [], _∷_}
 use mathlib.Core.Option.{Option, none, some, Option·map}
-use lib.ListN.{take, drop}
 use Rattle.record.specs.declared.Record.{Record}
-use Rattle.record.specs.Bytes.{decoded}
 
 -- the index of the first
 unfoldable pub first : (Record → Bool) → List Record → Option ℕ
@@ -16,10 +14,3 @@ first p (r ∷ rs) = cond (p r) (some 0) (Option·map suc (first p rs))
 unfoldable pub greatest : (Record → Bool) → List Record → ℕ
 greatest p [] = 0
 greatest p (r ∷ rs) = cond (p r) (max (r .at) (greatest p rs)) (greatest p rs)
-
--- the bytes of a file from a record's first on, and the record
-abbrev pub bytesAt : List ℕ → ℕ → List ℕ
-bytesAt file index = take 36 (drop (36 * index) file)
-
-abbrev pub recordIn : List ℕ → ℕ → Record
-recordIn file index = decoded (bytesAt file index)

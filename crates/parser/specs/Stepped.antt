@@ -16,7 +16,6 @@ use Rattle.parser.specs.declared.take.Taken.the-variants as N
 use Rattle.grammar.specs.Tokens.{Answer, ok}
 use Rattle.grammar.specs.Grammar as G
 use Rattle.grammar.specs.Grammar.{Item, Move, stay, enter, named, version}
-use Rattle.grammar.specs.Table.{body}
 use Rattle.grammar.specs.Engine.{Rec, Frame, Draft, blank, setName, nameOf}
 use Rattle.grammar.specs.Turns as T
 use Rattle.grammar.specs.Turns.{labelOf, given, ended}

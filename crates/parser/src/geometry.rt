@@ -3,7 +3,7 @@ ghost use mathlib.Core.Path.{_≡_};
 ghost use mathlib.Core.List.{[], _∷_};
 ghost use Prim.Native.Nat.{ℕ};
 ghost use Rattle.grammar.specs.Engine.{blank, some, Frame, items};
-ghost use Rattle.record.specs.Kinds.{RECT, POLYGON, PATH, POINT, VIA};
+ghost use Rattle.record.specs.Kinds.{POINT, VIA};
 ghost use Rattle.grammar.specs.Grammar.{name, x, y, semi, first, noName, stay, parts, counted};
 ghost use Rattle.parser.specs.Code.{aheadOf};
 ghost use Rattle.parser.specs.Kept.{points};

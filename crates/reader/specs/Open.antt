@@ -1,9 +1,8 @@
 -- What the code's state stands for: the open blocks, the innermost first.
-use Prim.Native.Nat.{ℕ, zero, suc}
+use Prim.Native.Nat.{ℕ}
 use mathlib.Core.Bool.{Bool, true, false, cond, _||_}
-use mathlib.Core.List.{List, [], _∷_, _++_, map}
+use mathlib.Core.List.{List, [], _∷_, map}
 use lib.Dec.{leb, eqb}
-use lib.ListN.{take, drop}
 use Rattle.record.specs.Kinds.{VERSION, UNITS, SITE, SITE-CLASS, SYMMETRY, SIZE, MACRO, PIN, PORT, OBS, LAYER, RECT, POLYGON, PATH, POINT}
 use Rattle.lexer.specs.declared.Token.{Token}
 use Rattle.reader.specs.declared.state.Block.{Block}

@@ -1,6 +1,6 @@
 -- What a step does to the open blocks of the code's state.
 use Prim.Native.Nat.{ℕ}
-use mathlib.Core.List.{List, [], _∷_}
+use mathlib.Core.List.{List, _∷_}
 use Rattle.lexer.specs.declared.Token.{Token}
 use Rattle.record.specs.declared.Record.{Record}
 use Rattle.grammar.specs.Table.{body}

@@ -1,5 +1,4 @@
 // A pass over the turns: the one loop of all that reads. A turn is one turn of one of the original's loops.
-ghost use mathlib.Core.Path.{_≡_};
 ghost use Rattle.reader.specs.Passed.{Begins, Passes};
 use crate::state::Block;
 use crate::state::State;

@@ -10,11 +10,11 @@ use Rattle.refusal.specs.declared.Refusal.{Refusal}
 use Rattle.refusal.specs.Table.{refused, done, notWhole}
 use Rattle.record.specs.declared.Record.{Record}
 use Rattle.record.specs.Bytes.{encoded}
-use Rattle.file.specs.File.{whole, held}
+use Rattle.file.specs.File.{whole, held, bytesAt}
 use Rattle.file.proofs.Held.{held-all, all-at}
 use Rattle.grammar.specs.Reading.{Reading, records, refusal-of, reading}
 use Rattle.verdict.specs.Verdict.{blank, verdict, checked}
-use Rattle.verdict.specs.Meaning.{nth, Permutation, InSomeOrder, Reads, Accepted, OfFile, bytesAt}
+use Rattle.verdict.specs.Meaning.{nth, Permutation, InSomeOrder, Reads, Accepted, OfFile}
 use Rattle.verdict.proofs.Read.{reading-rises, reading-fits, refusal-low}
 use Rattle.verdict.proofs.Cases.{verdict-number, verdict-one-of}
 use Rattle.verdict.proofs.Orders.{order-iff}

@@ -11,11 +11,11 @@ use Rattle.refusal.specs.Table.{refused, done, notWhole, wrongRecord, lacking}
 use Rattle.little.specs.Little.{Bytes}
 use Rattle.record.specs.declared.Record.{Record}
 use Rattle.record.specs.Bytes.{encoded}
-use Rattle.file.specs.File.{whole, held, encodedAll}
+use Rattle.file.specs.File.{whole, held, encodedAll, bytesAt}
 use Rattle.file.proofs.Held.{all-whole, held-all, all-held}
 use Rattle.grammar.specs.Reading.{refusal-of, reading}
 use Rattle.verdict.specs.Verdict.{verdict, checked}
-use Rattle.verdict.specs.Meaning.{nth, In, Repeated, Faulty, Lacking, First, None, AsOften, Permutation, InSomeOrder, Reads, Accepted, OfFile, bytesAt}
+use Rattle.verdict.specs.Meaning.{nth, In, Repeated, Faulty, Lacking, First, None, AsOften, Permutation, InSomeOrder, Reads, Accepted, OfFile}
 use Rattle.verdict.proofs.Counts.{as-often, reordered}
 use Rattle.verdict.proofs.Read.{reading-rises, reading-fits}
 use Rattle.verdict.proofs.Cases.{wrong-iff, lacking-iff, first-fault}

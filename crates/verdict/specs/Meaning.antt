@@ -1,10 +1,10 @@
 -- What the theorems say of a file and a reading. Here rs are the records of the reading, and fs those of the file.
-use Prim.Native.Nat.{ℕ, suc, _*_, _<_}
+use Prim.Native.Nat.{ℕ, suc, _<_}
 use mathlib.Core.Path.{_≡_}
 use mathlib.Core.Logic.{_⊎_}
 use mathlib.Core.Bool.{cond}
 use mathlib.Core.List.{List, [], _∷_, List·Permᴰ}
-use lib.ListN.{length, take, drop, getD}
+use lib.ListN.{length, getD}
 use Rattle.refusal.specs.declared.Refusal.{Refusal}
 use Rattle.refusal.specs.Table.{refused, done, notWhole, wrongRecord, lacking}
 use Rattle.record.specs.declared.Record.{Record}
@@ -76,7 +76,3 @@ abbrev pub OfFile : List ℕ → Refusal → Type 0
 OfFile file r =
     (r ≡ refused notWhole (length file) 0)
     ⊎ (((i : ℕ) × (r ≡ refused wrongRecord i 0)) ⊎ (((a : ℕ) × (r ≡ refused lacking a 0)) ⊎ (r ≡ refused done 0 0)))
-
--- the 36 bytes at an index of a file
-abbrev pub bytesAt : List ℕ → ℕ → List ℕ
-bytesAt file i = take 36 (drop (36 * i) file)

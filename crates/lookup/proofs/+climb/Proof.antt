@@ -1,13 +1,11 @@
 -- `lookup::climb` meets its contract, by the `at` of the record, which is less for its owner.
 use Prim.Native.Nat.{ℕ, _+_, _<_}
-use mathlib.Core.Path.{_≡_}
 use borrow.Author.Needs.{needs}
 use borrow.Fn.Kinds.{In}
 use borrow.Fn.PlainCycle.{Measures, is, falls, and}
 use native.Mathlib.Omega.{arith}
-use Rattle.record.specs.declared.Record.{Record}
 use Rattle.record.specs.Bytes.{decoded}
-use Rattle.lookup.specs.First.{recordIn}
+use Rattle.file.specs.File.{recordIn}
 use Rattle.lookup.proofs.Steps.{ended, lacks, lower, further}
 use Rattle.lookup.proofs.climb.Reads as climb
 use Rattle.lookup.proofs.climb.Kinds as climb-kinds

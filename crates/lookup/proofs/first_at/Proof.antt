@@ -8,7 +8,7 @@ use borrow.Author.Tests.{eq-eqb, ne-eqb}
 use native.Mathlib.Omega.{arith}
 use lib.ListN.{length}
 use Rattle.record.specs.Bytes.{decoded}
-use Rattle.lookup.specs.First.{recordIn}
+use Rattle.file.specs.File.{recordIn}
 use Rattle.lookup.specs.Chain.{isAt}
 use Rattle.lookup.proofs.Search.{hit, miss}
 use Rattle.lookup.proofs.first_at.Statement.{statement}

@@ -1,5 +1,5 @@
 -- `lookup::in_force` meets its contract: its two tests are those of `inForce`, and the pass is the rest of it.
-use mathlib.Core.Path.{_≡_, sym, ap, _∙_}
+use mathlib.Core.Path.{sym, ap, _∙_}
 use borrow.Author.Needs.{needs}
 use borrow.Author.Tests.{eq-eqb, ne-eqb}
 use Rattle.lookup.specs.declared.InForce.{InForce}

@@ -6,7 +6,7 @@ use borrow.Author.Needs.{needs}
 use native.Mathlib.Omega.{arith}
 use lib.ListN.{length}
 use Rattle.record.specs.Bytes.{decoded}
-use Rattle.lookup.specs.First.{recordIn}
+use Rattle.file.specs.File.{recordIn}
 use Rattle.lookup.specs.Force.{asked}
 use Rattle.lookup.proofs.Best.{Best, nothing, passed, lower, higher, some-best, no-best}
 use Rattle.lookup.proofs.latest.Statement.{statement}

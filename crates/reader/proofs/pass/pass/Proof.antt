@@ -1,5 +1,5 @@
 -- `reader::pass::pass` meets its contract: every turn keeps what is read in all, and takes a token or leaves a layer.
-use Prim.Native.Nat.{_+_, _≤_}
+use Prim.Native.Nat.{_≤_}
 use mathlib.Core.Path.{_≡_, refl, sym, _∙_}
 use mathlib.Core.Logic.{⊎-elim}
 use native.Mathlib.Omega.{arith}
