@@ -105,7 +105,7 @@ def ask_chain(letter, count):
     QUESTIONS.append(letter + struct.pack('<I', count).hex())
     places = range(count) if letter == 'u' else range(count - 1, -1, -1)
     data = pack([(24, 0, k, k - 1 if k else LIBRARY, 0, 0) for k in places])
-    ANSWERS.append(''.join(';' + numbers(owners(data, i)) for i in (count - 1, count - 2, 0)))
+    ANSWERS.append(''.join(';' + numbers(owners(data, i)) for i in (count - 1, 0)))
 
 
 def cut(data):
@@ -167,8 +167,8 @@ def chains():
     for _ in range(80):
         n = random.randrange(9)
         ask_owners(pack([(24, 0, random.randrange(8), random.choice((random.randrange(8), LIBRARY)), 0, 0) for _ in range(n)]))
-    for letter in 'ud':
-        for count in (2, 3, 1000, 50000):
+    for letter, longest in ('u', 50000), ('d', 5000):
+        for count in (1, 2, 3, 1000, longest):
             ask_chain(letter, count)
 
 

@@ -5,7 +5,7 @@ use mathlib.Core.List.{List, [], _∷_}
 use native.Mathlib.Nat.{pow-zero, pow-suc}
 use native.Mathlib.Omega.{arith}
 use lib.ListN.{take, drop, getD}
-use lib.Seq.{take-take, drop-drop, getD-take, getD-drop}
+use lib.Seq.{take-take, take-nil, drop-drop, getD-take, getD-drop}
 use Rattle.little.specs.Little.{number, Bytes}
 use Rattle.little.proofs.Laws.{take-bytes, drop-bytes}
 use Rattle.record.specs.Bytes.{decoded}
@@ -23,6 +23,26 @@ part-of file i o n h = part o n 36 (drop (36 * i) file) h ∙ ap (λ l. take n l
 
 pub byte-of : (file : List ℕ) (i o : ℕ) → o < 36 → getD (bytesAt file i) o 0 ≡ getD file (36 * i + o) 0
 byte-of file i o h = getD-take 36 (drop (36 * i) file) o 0 h ∙ getD-drop (36 * i) file o 0
+
+-- the number of a stretch: its first byte, and the rest; past the end all are nought
+stretch : (k q : ℕ) (l : List ℕ) → number (take (suc k) (drop q l)) ≡ getD l q 0 + 256 * number (take k (drop (suc q) l))
+unfolding number
+stretch k zero [] = rw take-nil
+stretch k (suc q) [] = rw take-nil
+stretch k zero (b ∷ l) = refl
+stretch k (suc q) (b ∷ l) = stretch k q l
+
+-- a number of four bytes, byte by byte
+pub four : (file : List ℕ) (i o : ℕ) → o + 4 ≤ 36 → (p : ℕ) → p ≡ 36 * i + o
+    → getD file p 0 + 256 * getD file (p + 1) 0 + 65536 * getD file (p + 2) 0 + 16777216 * getD file (p + 3) 0 ≡ number (take 4 (drop o (bytesAt file i)))
+unfolding number
+four file i o h p e =
+    let n1 : suc p ≡ p + 1 = omega arith in
+    let n2 : suc (p + 1) ≡ p + 2 = omega arith in
+    let n3 : suc (p + 2) ≡ p + 3 = omega arith in
+    let all = part-of file i o 4 h in
+    rw (all, ← e)
+    (omega (arith, rw n1 at (stretch 3 p file), rw n2 at (stretch 2 (p + 1) file), rw n3 at (stretch 1 (p + 2) file), stretch 0 (p + 3) file))
 
 -- a number of n bytes fits them
 small : (n : ℕ) (l : List ℕ) → Bytes l → number (take n l) < 256 ^ n

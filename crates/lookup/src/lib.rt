@@ -41,7 +41,17 @@ fn word(file: &[u8], index: usize, offset: usize) -> usize
     requires { ⌜ (index < length (now file) / 36) × (offset + 4 ≤ 36) ⌝ }
     ensures { λ r. ⌜ (r ≡ field offset 4 (bytesAt (now (file .entry)) index)) × (r < 4294967296) ⌝ }
 {
-    little::number(file, Record::SIZE * index + offset, 4) as usize
+    let place = Record::SIZE * index + offset;
+    wide(file[place])
+        + 256 * wide(file[place + 1])
+        + 65536 * wide(file[place + 2])
+        + 16777216 * wide(file[place + 3])
+}
+
+fn wide(b: u8) -> usize
+    ensures { λ r. ⌜ (r ≡ b) × (r < 256) ⌝ }
+{
+    b as usize
 }
 
 // A kind of which all records count.
@@ -161,11 +171,13 @@ fn first_at(file: &[u8], place: usize) -> usize
     count
 }
 
-// So many owners, and those of the record at the index: up the enclosing blocks, whose `at` falls.
-fn climb(file: &[u8], index: usize, count: usize) -> usize
-    requires { ⌜ (index < length (now file) / 36) × (count + recordIn (now file) index .at < 4294967296) ⌝ }
-    ensures { λ r. ⌜ r ≡ count + ownersOf (held (now (file .entry))) (recordIn (now (file .entry)) index) ⌝ }
+// So many owners, and those of the record at the index: up the enclosing blocks, whose `at` falls. The file is lent by one more
+// reference, so that a step up needs no room on the stack.
+fn climb(lent: &&[u8], index: usize, count: usize) -> usize
+    requires { ⌜ (index < length (now (now lent)) / 36) × (count + recordIn (now (now lent)) index .at < 4294967296) ⌝ }
+    ensures { λ r. ⌜ r ≡ count + ownersOf (held (now (now (lent .entry)))) (recordIn (now (now (lent .entry))) index) ⌝ }
 {
+    let file = *lent;
     let at = word(file, index, Record::AT);
     let owner = word(file, index, Record::OWNER);
     if at <= owner {
@@ -175,7 +187,7 @@ fn climb(file: &[u8], index: usize, count: usize) -> usize
     if file.len() / Record::SIZE <= next {
         return count;
     }
-    climb(file, next, count + 1)
+    climb(lent, next, count + 1)
 }
 
 // How many owners the record at the index has, out to the library.
@@ -188,5 +200,5 @@ pub fn owners(file: &[u8], index: usize) -> Chain
     if file.len() / Record::SIZE <= index {
         return Chain::Count(0);
     }
-    Chain::Count(climb(file, index, 0))
+    Chain::Count(climb(&file, index, 0))
 }

@@ -5,7 +5,7 @@
 //                             and the bytes of each
 //   o FILE                    the owners of all records, and of one past the file: `;`, refusal, place, line and count of each
 //   u COUNT, d COUNT          a chain of so many owners (four bytes), with `at` rising in the file or falling: the owners of its last
-//                             record, of the one before and of its first
+//                             record and of its first
 use lookup::Chain;
 use lookup::InForce;
 use record::Record;
@@ -142,10 +142,9 @@ fn link(file: &mut [u8], count: usize, falling: bool) {
 }
 
 fn ends(file: &[u8], count: usize) {
-    if count < 2 {
+    if count == 0 {
         return;
     }
     one_chain(file, count - 1);
-    one_chain(file, count - 2);
     one_chain(file, 0);
 }

@@ -15,14 +15,14 @@ use Rattle.lookup.proofs.word.Reads as word-reads
 use Rattle.lookup.proofs.+climb.{statement}
 use Rattle.lookup.proofs.+climb.Tie.{close}
 
-abbrev μ-climb : Measures 1 climb-kinds.ps ℕ
-μ-climb κs a = recordIn (a .0 .now) (a .1 .0) .at
+abbrev μ-climb : Measures 2 climb-kinds.ps ℕ
+μ-climb κs a = recordIn (a .0 .now .now) (a .1 .0) .at
 
-abbrev climb-at : ℕ → In 1 climb-kinds.ps
-climb-at t = and 1 climb-kinds.ps (is 1 climb-kinds.ps μ-climb t) climb.Pre
+abbrev climb-at : ℕ → In 2 climb-kinds.ps
+climb-at t = and 2 climb-kinds.ps (is 2 climb-kinds.ps μ-climb t) climb.Pre
 
-abbrev climb-below : ℕ → In 1 climb-kinds.ps
-climb-below t = and 1 climb-kinds.ps (falls 1 climb-kinds.ps _<_ μ-climb t) climb.Pre
+abbrev climb-below : ℕ → In 2 climb-kinds.ps
+climb-below t = and 2 climb-kinds.ps (falls 2 climb-kinds.ps _<_ μ-climb t) climb.Pre
 
 pub +climb-spec : {M : Type 1} → statement M
 unfolding decoded
@@ -40,20 +40,20 @@ unfolding decoded
     (λ c κs. search needs)
     (λ c. let w = c .before in
     let a = w .before .before .before .args in
-    ended (a .file .now) (recordIn (a .file .now) (a .index)) (w .before .word .result) (w .word2 .result) (a .count) (w .before .word .ensures .0) (w .word2 .ensures .0) (c .if1 .taken))
+    ended (a .lent .now .now) (recordIn (a .lent .now .now) (a .index)) (w .before .word .result) (w .word2 .result) (a .count) (w .before .word .ensures .0) (w .word2 .ensures .0) (c .if1 .taken))
     (λ c κs. search needs)
     (λ c. let n = c .before in
     let w = n .before .before in
     let a = w .before .before .before .args in
-    lacks (a .file .now) (recordIn (a .file .now) (a .index)) (w .before .word .result) (w .word2 .result) (a .count) (w .before .word .ensures .0) (w .word2 .ensures .0) (n .first-at .result) (n .before .if1 .left) (n .first-at .ensures) (c .if2 .taken))
+    lacks (a .lent .now .now) (recordIn (a .lent .now .now) (a .index)) (w .before .word .result) (w .word2 .result) (a .count) (w .before .word .ensures .0) (w .word2 .ensures .0) (n .first-at .result) (n .before .if1 .left) (n .first-at .ensures) (c .if2 .taken))
     (λ c. search needs)
     (λ c κs. let n = c .before in
     let w = n .before .before in
     let s = w .before .before .before in
     let a = s .args in
-    let l = lower (a .file .now) (recordIn (a .file .now) (a .index)) (w .before .word .result) (w .word2 .result) (a .count) (w .before .word .ensures .0) (w .word2 .ensures .0) (n .first-at .result) (n .before .if1 .left) (n .first-at .ensures) (c .if2 .left) in
+    let l = lower (a .lent .now .now) (recordIn (a .lent .now .now) (a .index)) (w .before .word .result) (w .word2 .result) (a .count) (w .before .word .ensures .0) (w .word2 .ensures .0) (n .first-at .result) (n .before .if1 .left) (n .first-at .ensures) (c .if2 .left) in
     (omega (arith, l, s .pre .0), (omega arith, omega (arith, l, s .pre .1 .1))))
     (λ c. let n = c .before .before in
     let w = n .before .before in
     let a = w .before .before .before .args in
-    further (a .file .now) (recordIn (a .file .now) (a .index)) (w .before .word .result) (w .word2 .result) (a .count) (w .before .word .ensures .0) (w .word2 .ensures .0) (n .first-at .result) (n .before .if1 .left) (n .first-at .ensures) (c .before .if2 .left) (c .climb .result) (c .climb .ensures))
+    further (a .lent .now .now) (recordIn (a .lent .now .now) (a .index)) (w .before .word .result) (w .word2 .result) (a .count) (w .before .word .ensures .0) (w .word2 .ensures .0) (n .first-at .result) (n .before .if1 .left) (n .first-at .ensures) (c .before .if2 .left) (c .climb .result) (c .climb .ensures))

@@ -1,5 +1,5 @@
 -- `lookup::owners` meets its contract: its tests are those of `owners`, and what is climbed from the record is the rest of it.
-use mathlib.Core.Path.{ap, _∙_}
+use mathlib.Core.Path.{ap}
 use borrow.Author.Needs.{needs}
 use borrow.Author.Tests.{eq-eqb, ne-eqb, lt-ltb, le-ltb}
 use native.Mathlib.Nat.{zero-add}
@@ -21,13 +21,15 @@ returns-2 c = rw (eq-eqb _ _ (c .before .if1 .left), le-ltb _ _ (c .if2 .taken))
 
 climb-requires : tie.Need-climb-requires
 climb-requires c κs =
-    let a = c .before .before .before .args in
-    (c .if2 .left, omega (arith, at-small (a .file .now) (a .index) (λ i. c .before .before .shared-slice-known .given i .fits)))
+    let past = c .before in
+    let a = past .before .before .before .args in
+    (past .if2 .left, omega (arith, at-small (a .t1 .now) (a .index) (λ i. past .before .before .shared-slice-known .given i .fits)))
 
 returns-3 : tie.Need-returns-3
 unfolding owners recordAt
 returns-3 c =
-    rw (eq-eqb _ _ (c .before .before .if1 .left), lt-ltb _ _ (c .before .if2 .left)) (ap Chain.Count (c .climb .ensures ∙ zero-add _))
+    let past = c .before .before in
+    rw (eq-eqb _ _ (past .before .if1 .left), lt-ltb _ _ (past .if2 .left)) (ap Chain.Count (rw zero-add at (c .climb .ensures)))
 
 pub owners-spec : {M : Type 1} → statement M
 owners-spec =
