@@ -1,0 +1,67 @@
+-- `stands` meets its contract: the records before k are equal.
+use Prim.Native.Nat.{ℕ, _+_, _-_, _/_, _≤_, _<_}
+use mathlib.Core.Path.{_≡_, sym, _∙_}
+use mathlib.Core.Bool.{false≢true}
+use borrow.Author.Needs.{needs}
+use borrow.Author.Count.{below-more}
+use borrow.Author.Tests.{not-false}
+use native.Mathlib.Nat.{not-suc-le-zero}
+use native.Mathlib.Omega.{arith}
+use lib.ListN.{length}
+use Rattle.verdict.proofs.Laws.{same-equal}
+use Rattle.checker.specs.Windows.{recAt}
+use Rattle.checker.proofs.order.stands.Statement.{statement}
+use Rattle.checker.proofs.order.stands.Tie as tie
+
+abbrev Inv-loop : tie.InvT-loop
+Inv-loop w c file i k₀ k = (k ≤ c) × (i + c ≤ length file / 36) × ((j : ℕ) → j < k → recAt file (i + j) ≡ recAt w j)
+
+abbrev μ-loop : tie.MeasureT-loop
+μ-loop w c file i k₀ k = c - k
+
+sub-if1 : tie.Need-sub-if1 Inv-loop μ-loop
+sub-if1 c = search needs
+
+returns : tie.Need-returns Inv-loop μ-loop
+returns c = λ e. absurd (false≢true e)
+
+loop-holds : tie.Need-loop-holds Inv-loop μ-loop
+loop-holds c = (omega arith, omega arith, λ j h. absurd (not-suc-le-zero h))
+
+add-same-record : tie.Need-add-same-record Inv-loop μ-loop
+add-same-record c = search needs
+
+same-record-requires : tie.Need-same-record-requires Inv-loop μ-loop
+same-record-requires c κs = search needs
+
+returns-2 : tie.Need-returns-2 Inv-loop μ-loop
+returns-2 c = λ e. absurd (false≢true e)
+
+add-k : tie.Need-add-k Inv-loop μ-loop
+add-k c = search needs
+
+loop-less : tie.Need-loop-less Inv-loop μ-loop
+loop-less c = search needs
+
+loop-again : tie.Need-loop-again Inv-loop μ-loop
+loop-again c = (omega arith, omega arith, below-more _ _ (c .before .before .before .loop .inv .2) (same-equal _ _ (sym (c .before .same-record .ensures) ∙ not-false _ (c .if2 .left))))
+
+returns-3 : tie.Need-returns-3 Inv-loop μ-loop
+returns-3 c = λ _. (omega arith, λ k h. c .before .loop .inv .2 k (omega arith))
+
+pub stands-spec : {M : Type 1} → statement M
+stands-spec =
+    tie.close
+    (tie.spec
+    Inv-loop
+    μ-loop
+    sub-if1
+    returns
+    loop-holds
+    add-same-record
+    same-record-requires
+    returns-2
+    add-k
+    loop-less
+    loop-again
+    returns-3)

@@ -1,0 +1,102 @@
+-- `stretches` meets its contract: each pass gives the next records, and the run says how far the file has them.
+use mathlib.Core.Path.{_≡_, refl, ap, _∙_}
+use borrow.Author.Needs.{needs}
+use native.Mathlib.Omega.{arith}
+use lib.ListN.{length}
+use Rattle.parser.specs.Code.{restOf}
+use Rattle.checker.specs.Passing.{stretch}
+use Rattle.checker.proofs.Laying.{laid-length}
+use Rattle.checker.proofs.Following.{So, so-start, so-next, so-last, so-refused, went-on, went-over, went-wrong}
+use Rattle.checker.proofs.order.stretches.Statement.{statement}
+use Rattle.checker.proofs.order.stretches.Tie as tie
+
+abbrev Inv-loop : tie.InvT-loop
+Inv-loop text file w₀ st₀ run₀ w st run = So text st₀ file st run × (length w ≡ length w₀)
+
+abbrev μ-loop : tie.MeasureT-loop
+μ-loop text file w₀ st₀ run₀ w st run = length (restOf text (st .held))
+
+loop-holds : tie.Need-loop-holds Inv-loop μ-loop
+loop-holds c =
+    let a = c .before .before .before .args in
+    (so-start (a .text .now) (a .start) (a .file .now) _ refl, refl)
+
+pass-requires : tie.Need-pass-requires Inv-loop μ-loop
+pass-requires c κs = search needs
+
+enum-known-refusal : tie.Need-enum-known-refusal Inv-loop μ-loop
+enum-known-refusal c = search needs
+
+enum-known-c : tie.Need-enum-known-c Inv-loop μ-loop
+enum-known-c c = search needs
+
+run-after-requires : tie.Need-run-after-requires Inv-loop μ-loop
+run-after-requires c κs =
+    let l = c .before .before .before .before .before .before .before .before .loop in
+    let a = c .before .before .before .before .before .before .before .before .before .before .before .before .args in
+    let p = went-over (a .text .now) (l .st) stretch (l .w) _ _ (c .before .before .before .before .before .before .pass .ensures) _ (c .before .before .c .given .1) in
+    (omega (arith, p .3, c .before .before .before .before .before .before .before .before .before .before .before .before .pre, l .inv .1), l .inv .0 .within)
+
+at-the-end-requires : tie.Need-at-the-end-requires Inv-loop μ-loop
+at-the-end-requires c κs = search needs
+
+enum-known-next : tie.Need-enum-known-next Inv-loop μ-loop
+enum-known-next c = search needs
+
+run-after-requires-2 : tie.Need-run-after-requires-2 Inv-loop μ-loop
+run-after-requires-2 c κs =
+    let l = c .before .before .before .before .before .before .before .before .loop in
+    (omega (arith, c .before .before .before .before .before .before .before .before .before .before .before .before .pre, l .inv .1), l .inv .0 .within)
+
+loop-less : tie.Need-loop-less Inv-loop μ-loop
+loop-less c =
+    let l = c .before .before .before .before .before .before .before .before .before .loop in
+    let a = c .before .before .before .before .before .before .before .before .before .before .before .before .before .args in
+    omega (arith, went-on (a .text .now) (l .st) stretch (l .w) _ _ (c .before .before .before .before .before .before .before .pass .ensures) _ (c .before .before .before .next .given .1) .fewer)
+
+loop-again : tie.Need-loop-again Inv-loop μ-loop
+loop-again c =
+    let l = c .before .before .before .before .before .before .before .before .before .loop in
+    let a = c .before .before .before .before .before .before .before .before .before .before .before .before .before .args in
+    let f = went-on (a .text .now) (l .st) stretch (l .w) _ _ (c .before .before .before .before .before .before .before .pass .ensures) _ (c .before .before .before .next .given .1) in
+    (so-next (a .text .now) (a .start) (a .file .now) (l .st) (l .run) (l .inv .0) (l .w) stretch (omega (arith, c .before .before .before .before .before .before .before .before .before .before .before .before .before .pre, l .inv .1)) _ _ f _ (c .run-after2 .ensures), ap length (f .laid) ∙ laid-length (f .given) 0 (l .w) ∙ l .inv .1)
+
+same-length : tie.Need-same-length Inv-loop μ-loop
+same-length c = search needs
+
+returns : tie.Need-returns Inv-loop μ-loop
+returns c =
+    let l = c .before .before .before .before .before .before .before .loop in
+    let a = c .before .before .before .before .before .before .before .before .before .before .before .args in
+    so-refused (a .text .now) (a .start) (a .file .now) (l .st) (l .run) (l .inv .0) _ (went-wrong (a .text .now) (l .st) stretch (l .w) _ _ (c .before .before .before .before .before .pass .ensures) _ (c .before .refusal .given .1))
+
+same-length-2 : tie.Need-same-length-2 Inv-loop μ-loop
+same-length-2 c = search needs
+
+returns-2 : tie.Need-returns-2 Inv-loop μ-loop
+returns-2 c =
+    let l = c .before .before .before .before .before .before .before .before .before .before .loop in
+    let a = c .before .before .before .before .before .before .before .before .before .before .before .before .before .before .args in
+    let p = went-over (a .text .now) (l .st) stretch (l .w) _ _ (c .before .before .before .before .before .before .before .before .pass .ensures) _ (c .before .before .before .before .c .given .1) in
+    so-last (a .text .now) (a .start) (a .file .now) (l .st) (l .run) (l .inv .0) (l .w) _ _ _ (p .1) (p .2) (p .4) (omega (arith, p .3, c .before .before .before .before .before .before .before .before .before .before .before .before .before .before .pre, l .inv .1)) _ (c .before .run-after .ensures) (c .at-the-end .result) (c .at-the-end .ensures)
+
+pub stretches-spec : {M : Type 1} → statement M
+stretches-spec =
+    tie.close
+    (tie.spec
+    Inv-loop
+    μ-loop
+    loop-holds
+    pass-requires
+    enum-known-refusal
+    enum-known-c
+    run-after-requires
+    at-the-end-requires
+    enum-known-next
+    run-after-requires-2
+    loop-less
+    loop-again
+    same-length
+    returns
+    same-length-2
+    returns-2)
