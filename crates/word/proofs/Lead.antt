@@ -5,8 +5,8 @@ use mathlib.Core.Bool.{Bool, true, false, cond}
 use mathlib.Core.List.{List, [], _∷_, _++_, map}
 use mathlib.Core.Logic.{⊎-elim}
 use native.Mathlib.Omega.{arith}
-use borrow.Author.Tests.{eq-eqb, ne-eqb, eqb-true}
-use lib.Dec.{eqb}
+use borrow.Author.Tests.{eq-eqb, ne-eqb, eqb-true, leb-true, leb-false}
+use lib.Dec.{eqb, leb}
 use lib.ListN.{length, take, drop, getD, length-append, take-append-drop}
 use lib.Seq.{take-at, drop-at}
 use Rattle.little.specs.Little.{Bytes}
@@ -123,3 +123,11 @@ module _ (s : List ℕ) (k : ℕ) (e : k ≡ nodeOf (upper s)) where
       go : (b : Bool) → eqb (wordOf s) 0 ≡ b → 0 ≡ wordOf s
       go true z = sym (eqb-true _ _ z)
       go false z = let f : k ≡ wordOf s = rw z at in-both in absurd (omega (arith, f, hundred s))
+
+  -- the word that the node is
+  pub word-here : cond (leb k 100) k 0 ≡ wordOf s
+  word-here = go (leb k 100) refl
+    where
+      go : (b : Bool) → leb k 100 ≡ b → cond (leb k 100) k 0 ≡ wordOf s
+      go true f = rw f (is-word (leb-true _ _ f))
+      go false f = rw f (no-word (leb-false _ _ f))

@@ -1,16 +1,16 @@
 -- One turn of the look-up: the bytes passed are a node, and the next stretch leads to the next node or shows that there is no word.
 use Prim.Native.Nat.{ℕ, _+_, _-_, _*_, _≤_, _<_, min}
-use mathlib.Core.Path.{_≡_, sym, ap, _∙_}
-use mathlib.Core.List.{List}
+use mathlib.Core.Path.{_≡_, refl, sym, ap, _∙_}
+use mathlib.Core.List.{List, [], _∷_}
 use native.Mathlib.Decide.{decLt}
 use native.Mathlib.Omega.{arith}
 use lib.ListN.{length, take, drop, getD, length-take, length-drop}
 use lib.Seq.{take-add, take-all, length-take-le}
 use Rattle.little.specs.Little.{Bytes}
 use Rattle.little.proofs.Laws.{take-bytes, drop-bytes}
-use Rattle.word.specs.Words.{upper}
-use Rattle.word.specs.Lookup.{nodeOf, marked, nextOf}
-use Rattle.word.proofs.Words.{upper-at, raised-small}
+use Rattle.word.specs.Words.{keys, values, words, upper, same, firstWhere}
+use Rattle.word.specs.Lookup.{stems, nodes, nodeOf, marked, keyed, placeIn, nextOf}
+use Rattle.word.proofs.Words.{upper-length, upper-at, raised-small}
 use Rattle.word.proofs.Lead.{Ahead, leads, no-node}
 
 -- the bytes before the place are a node, or none are passed; and before the end a whole number of stretches is passed
@@ -69,3 +69,14 @@ module _ (u : List ℕ) (at node : ℕ) (l : Led u at node) (h : at < length u) 
         | yes p ↦ let s : stop ≡ 6 * (l .q + 1) = omega (arith, l .whole h) in no-node u (l .q + 1) (omega arith) (omega arith) (rw s at y)
         | no n ↦ rw (take-all stop u (omega arith)) at y
       ]
+
+-- bytes that are one stretch or none
+pub alone : (s : List ℕ) → Bytes s → length s ≤ 6 → nextOf (256 * marked (upper s)) ≡ nodeOf (upper s)
+unfolding keys values words upper same firstWhere stems nodes nodeOf keyed marked placeIn nextOf
+alone [] bs h = refl
+alone (b ∷ s) bs h =
+    let u : List ℕ = upper (b ∷ s) in
+    let e : 256 * marked u ≡ 0 + 256 * marked u = omega arith in
+    let n = upper-length (b ∷ s) in
+    ap nextOf e
+    ∙ leads [] u (record { q = 0; whole = refl; some = rw n (omega arith); short = rw n h; bytes = upper-bytes (b ∷ s) bs; begun = λ z. refl })

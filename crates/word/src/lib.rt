@@ -1,6 +1,8 @@
 // The words of LEF: the number of the word that a token spells, found in one step, and the codes of the value words.
 ghost use mathlib.Core.Path.{_≡_};
+ghost use mathlib.Core.Bool.{cond};
 ghost use Prim.Native.Nat.{_+_, _-_, _^_, _≤_, _<_, min};
+ghost use lib.Dec.{leb};
 ghost use lib.ListN.{length, take, drop};
 ghost use Rattle.word.specs.Words.{raised, upper, wordOf, isKey};
 ghost use Rattle.word.specs.Lookup.{marked};
@@ -9,8 +11,19 @@ pub mod codes;
 pub mod names;
 mod nodes;
 
-// The number of the word that the bytes spell, in upper or lower case, or 0.
+// The number of the word that the bytes spell, in upper or lower case, or 0. Most words are one stretch long, and those are
+// looked up without a loop.
 pub fn word_of(part: &[u8]) -> u8
+    ensures { λ r. ⌜ r ≡ wordOf (now (part .entry)) ⌝ }
+{
+    if 6 < part.len() {
+        return by_stretches(part);
+    }
+    word_at(nodes::next(256 * stretch(part, 0, part.len())))
+}
+
+// The same, stretch by stretch.
+fn by_stretches(part: &[u8]) -> u8
     ensures { λ r. ⌜ r ≡ wordOf (now (part .entry)) ⌝ }
 {
     let mut at = 0;
@@ -23,6 +36,13 @@ pub fn word_of(part: &[u8]) -> u8
         }
         at = stop;
     }
+    word_at(node)
+}
+
+// The word that a node is, or 0 where it is only the beginning of one.
+fn word_at(node: u8) -> u8
+    ensures { λ r. ⌜ r ≡ cond (leb node 100) node 0 ⌝ }
+{
     if node <= names::WORDS { node } else { 0 }
 }
 

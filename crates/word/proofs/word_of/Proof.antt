@@ -1,113 +1,33 @@
--- `word::word_of` meets its contract: turn by turn the node is that of the bytes passed, and at the end it is the word or none.
-use Prim.Native.Nat.{_+_, _-_, _*_, _≤_, min}
-use mathlib.Core.Path.{_≡_, refl, sym, ap, _∙_}
+-- `word::word_of` meets its contract: what is one stretch or none leads to its node at once.
+use Prim.Native.Nat.{_-_, _*_}
+use mathlib.Core.Path.{_≡_, ap, _∙_}
 use borrow.Author.Needs.{needs}
 use native.Mathlib.Omega.{arith}
-use lib.ListN.{length, take, drop}
+use lib.ListN.{length}
 use lib.Seq.{take-all}
-use Rattle.word.specs.Words.{keys, values, words, upper, same, firstWhere}
-use Rattle.word.specs.Lookup.{stems, nodes, nodeOf, marked, nextOf}
-use Rattle.word.proofs.Words.{upper-length, upper-take, upper-drop}
-use Rattle.word.proofs.Trie.{few}
-use Rattle.word.proofs.Lead.{is-word, no-word}
-use Rattle.word.proofs.Turn.{Led, upper-bytes, on, over}
+use Rattle.word.specs.Words.{upper}
+use Rattle.word.specs.Lookup.{nodeOf, marked, nextOf}
+use Rattle.word.proofs.Lead.{word-here}
+use Rattle.word.proofs.Turn.{alone}
 use Rattle.word.proofs.word_of.Statement.{statement}
 use Rattle.word.proofs.word_of.Tie as tie
 
-abbrev Inv-loop : tie.InvT-loop
-Inv-loop part at₀ node₀ at node = Led (upper part) at node
-
-abbrev μ-loop : tie.MeasureT-loop
-μ-loop part at₀ node₀ at node = length part - at
-
--- a node's number is small
-small : (c : tie.At-loop Inv-loop μ-loop) → c .loop .node ≤ 154
-small c = rw (c .loop .inv .number) (few (take (c .loop .at) (upper (c .before .before .args .part .now))))
-
--- where the stretch leads, said of the raised bytes
-led : (c : tie.After-next Inv-loop μ-loop)
-    → c .next .result
-    ≡ nextOf (c .before .before .before .before .loop .node
-    + 256 * marked (take (c .before .before .stretch-end .result - c .before .before .before .before .loop .at)
-    (drop (c .before .before .before .before .loop .at) (upper (c .before .before .before .before .before .before .args .part .now)))))
-led c =
-    let l = c .before .before .before .before .loop in
-    let s = c .before .before .before .before .before .before .args .part .now in
-    c .next .ensures
-    ∙ ap (λ m. nextOf (l .node + 256 * m)) (c .before .stretch .ensures .0 ∙ ap marked (upper-take (c .before .before .stretch-end .result - l .at) (drop (l .at) s) ∙ ap (take (c .before .before .stretch-end .result - l .at)) (upper-drop (l .at) s)))
-
--- the stretch ends at the place of the raised bytes
-ended : (c : tie.After-stretch-end Inv-loop μ-loop)
-    → c .stretch-end .result ≡ min (c .before .before .loop .at + 6) (length (upper (c .before .before .before .before .args .part .now)))
-ended c = rw (upper-length (c .before .before .before .before .args .part .now)) (c .stretch-end .ensures)
-
-loop-holds : tie.Need-loop-holds Inv-loop μ-loop
-unfolding keys values words same firstWhere stems nodes nodeOf
-loop-holds c = record { within = omega arith; number = refl; q = 0; whole = λ h. refl; begun = λ z. refl }
-
-stretch-end-requires : tie.Need-stretch-end-requires Inv-loop μ-loop
-stretch-end-requires c κs = search needs
-
-cast-next : tie.Need-cast-next Inv-loop μ-loop
-cast-next c = omega (arith, small (c .before .before))
-
-stretch-requires : tie.Need-stretch-requires Inv-loop μ-loop
-stretch-requires c κs = omega arith
-
-mul-next : tie.Need-mul-next Inv-loop μ-loop
-mul-next c = omega arith
-
-add-next : tie.Need-add-next Inv-loop μ-loop
-add-next c = omega (arith, small (c .before .before .before))
-
-next-requires : tie.Need-next-requires Inv-loop μ-loop
-next-requires c κs = search needs
-
-returns : tie.Need-returns Inv-loop μ-loop
-returns c =
-    let d = c .before .before in
-    let l = d .before .before .before .loop in
-    let s = d .before .before .before .before .before .args .part .now in
-    is-word s 0 (sym (over (upper s) (l .at) (l .node) (l .inv) (rw (upper-length s) (d .before .before .loop-test .taken)) (upper-bytes s (λ i. d .before .before .before .before .shared-slice-known .given i .fits)) (d .before .stretch-end .result) (ended (d .before)) (c .before .next .result) (led (c .before)) (c .if1 .taken))) (omega arith)
-
-loop-less : tie.Need-loop-less Inv-loop μ-loop
-loop-less c = omega arith
-
-loop-again : tie.Need-loop-again Inv-loop μ-loop
-loop-again c =
-    let d = c .before .before in
-    let l = d .before .before .before .loop in
-    let s = d .before .before .before .before .before .args .part .now in
-    on (upper s) (l .at) (l .node) (l .inv) (rw (upper-length s) (d .before .before .loop-test .taken)) (upper-bytes s (λ i. d .before .before .before .before .shared-slice-known .given i .fits)) (d .before .stretch-end .result) (ended (d .before)) (c .before .next .result) (led (c .before)) (c .if1 .left)
-
--- at the end the node is that of all the bytes
-whole : (c : tie.After-loop Inv-loop μ-loop) → c .before .loop .node ≡ nodeOf (upper (c .before .before .before .args .part .now))
+-- the node of all the bytes
+whole : (c : tie.After-next) → c .next .result ≡ nodeOf (upper (c .before .before .before .before .args .part .now))
 whole c =
-    let l = c .before .loop in
-    let s = c .before .before .before .args .part .now in
-    l .inv .number ∙ ap nodeOf (take-all (l .at) (upper s) (rw (upper-length s) (omega arith)))
-
-returns-2 : tie.Need-returns-2 Inv-loop μ-loop
-returns-2 c = is-word _ _ (whole (c .before)) (c .if2 .taken)
-
-returns-3 : tie.Need-returns-3 Inv-loop μ-loop
-returns-3 c = no-word _ _ (whole (c .before)) (c .if2 .left)
+    let s = c .before .before .before .before .args .part .now in
+    c .next .ensures
+    ∙ ap (λ m. nextOf (256 * m)) (c .before .stretch .ensures .0 ∙ ap (λ l. marked (upper l)) (take-all (length s - 0) s (omega arith)))
+    ∙ alone s (λ i. c .before .before .before .shared-slice-known .given i .fits) (omega arith)
 
 pub word-of-spec : {M : Type 1} → statement M
 word-of-spec =
     tie.close
     (tie.spec
-    Inv-loop
-    μ-loop
-    loop-holds
-    stretch-end-requires
-    cast-next
-    stretch-requires
-    mul-next
-    add-next
-    next-requires
-    returns
-    loop-less
-    loop-again
-    returns-2
-    returns-3)
+    (λ c κs. search needs)
+    (λ c. search needs)
+    (λ c κs. search needs)
+    (λ c. search needs)
+    (λ c κs. search needs)
+    (λ c κs. search needs)
+    (λ c. c .word-at .ensures ∙ word-here _ _ (whole (c .before))))
