@@ -1,6 +1,5 @@
 -- Numbers out of four and eight bytes, and 36 bytes as five such numbers: each part of a record's bytes is the bytes of its number.
 use Prim.Native.Nat.{ℕ, zero, suc, _+_, _*_, _/_, _≤_, _<_}
-use native.Mathlib.Nat.{not-suc-le-zero}
 use native.Mathlib.Omega.{arith}
 use mathlib.Core.Path.{_≡_, refl, sym, ap, _∙_}
 use mathlib.Core.Bool.{Bool, true, false, _&&_, false≢true}
@@ -16,7 +15,7 @@ use Rattle.record.specs.Bytes.{encoded, decoded}
 use Rattle.record.proofs.Laws.{whole}
 use Rattle.verdict.specs.Verdict.{same}
 use Rattle.verdict.proofs.Laws.{same-true, same-false}
-use Rattle.checker.specs.Windows.{recAt}
+use Rattle.file.specs.File.{recordIn}
 
 -- NUMBERS
 
@@ -67,7 +66,7 @@ take-drop n (suc o) (suc k) (x ∷ m) h = take-drop n o k m (omega arith)
 pub part : (n o p : ℕ) (l : List ℕ) → o + n ≤ 36 → take n (drop o (take 36 (drop p l))) ≡ take n (drop (p + o) l)
 part n o p l h = take-drop n o 36 (drop p l) h ∙ ap (take n) (drop-drop o p l)
 
-pub at-bytes : (l : List ℕ) (i : ℕ) → recAt l i .at ≡ number (take 4 (drop (36 * i + 4) l))
+pub at-bytes : (l : List ℕ) (i : ℕ) → recordIn l i .at ≡ number (take 4 (drop (36 * i + 4) l))
 unfolding decoded
 at-bytes l i = ap number (part 4 4 (36 * i) l (omega arith))
 
@@ -78,7 +77,7 @@ pub whole-bytes : (l : List ℕ) (i : ℕ) → Bytes l → Bytes (take 36 (drop 
 whole-bytes l i h = take-bytes 36 (drop (36 * i) l) (drop-bytes (36 * i) l h)
 
 -- an `at` has four bytes
-pub at-small : (l : List ℕ) (i : ℕ) → Bytes l → recAt l i .at < 4294967296
+pub at-small : (l : List ℕ) (i : ℕ) → Bytes l → recordIn l i .at < 4294967296
 at-small l i h =
     let o = 36 * i + 4 in
     omega (arith, at-bytes l i, four-bytes l o, h o, h (o + 1), h (o + 2), h (o + 3))
@@ -144,7 +143,7 @@ module _ (l : List ℕ) (i : ℕ) (m : List ℕ) (j : ℕ) (bl : Bytes l) (bm : 
   start : (k : List ℕ) (p : ℕ) → eight k (p + 0) ≡ eight k p
   start k p = let z : p + 0 ≡ p = omega arith in rw z
 
-  same-of : equal ≡ true → recAt l i ≡ recAt m j
+  same-of : equal ≡ true → recordIn l i ≡ recordIn m j
   same-of h =
       let h4 = and-true _ (eqb (number (take 4 (drop (36 * i + 32) l))) (number (take 4 (drop (36 * j + 32) m)))) h in
       let h3 = and-true _ (eqb (eight l (36 * i + 24)) (eight m (36 * j + 24))) (h4 .0) in
@@ -157,7 +156,7 @@ module _ (l : List ℕ) (i : ℕ) (m : List ℕ) (j : ℕ) (bl : Bytes l) (bm : 
       (moved 8 24 (omega arith) (eqb-true _ _ (h3 .1)))
       (moved 4 32 (omega arith) (eqb-true _ _ (h4 .1))))
 
-  of-same : recAt l i ≡ recAt m j → equal ≡ true
+  of-same : recordIn l i ≡ recordIn m j → equal ≡ true
   of-same e =
       let bytes : take 36 (drop (36 * i) l) ≡ take 36 (drop (36 * j) m)
       = sym (whole (take 36 (drop (36 * i) l)) (whole-bytes l i bl) (whole-length l i hi)) ∙ ap encoded e ∙ whole (take 36 (drop (36 * j) m)) (whole-bytes m j bm) (whole-length m j hj) in
@@ -169,5 +168,5 @@ module _ (l : List ℕ) (i : ℕ) (m : List ℕ) (j : ℕ) (bl : Bytes l) (bm : 
         eq-eqb (number (take 4 (drop (36 * i + 32) l))) (number (take 4 (drop (36 * j + 32) m))) (moved-back 4 32 (omega arith) bytes),
       )
 
-  pub five-same : equal ≡ same (recAt l i) (recAt m j)
-  five-same = decide equal (recAt l i) (recAt m j) same-of of-same
+  pub five-same : equal ≡ same (recordIn l i) (recordIn m j)
+  five-same = decide equal (recordIn l i) (recordIn m j) same-of of-same

@@ -11,14 +11,14 @@ use lib.ListN.{length}
 use Rattle.little.specs.Little.{Bytes}
 use Rattle.refusal.specs.Table.{refused, done, wrongRecord, lacking}
 use Rattle.record.specs.declared.Record.{Record}
-use Rattle.file.specs.File.{held}
+use Rattle.file.specs.File.{held, recordIn}
 use Rattle.file.proofs.Held.{held-length, front-at}
 use Rattle.verdict.specs.Verdict.{blank, verdict}
 use Rattle.verdict.specs.Meaning.{nth}
-use Rattle.verdict.specs.Facts.{Met, Unmet, Good, Wrong}
+use Rattle.verdict.specs.Facts.{Met, Good, Wrong}
 use Rattle.verdict.proofs.Bridge.{verdict-wrong, verdict-lacks, verdict-done}
 use Rattle.checker.specs.declared.windows.Seen.{Seen}
-use Rattle.checker.specs.Windows.{recAt, Sorted, Inside, Windowed}
+use Rattle.checker.specs.Windows.{Windowed}
 use Rattle.checker.specs.Covered.{Told, Covered, Fills}
 use Rattle.checker.proofs.Bytes.{at-small}
 use Rattle.checker.proofs.Scanning.{same-at}
@@ -116,30 +116,30 @@ module _ {m n : ℕ} {r f w : ℕ → Record} {a c hi i p : ℕ} {s : Seen}
 
 -- THE VERDICT, when all of the reading has been in a window
 module _ (rs : List Record) (file : List ℕ) (b : Bytes file) (s : Seen) (low : 4294967296 ≤ s .low)
-    (cov : Covered (length rs) (length file / 36) (nth rs) (recAt file) (length rs) s) where
-  each : (i : ℕ) → i < length file / 36 → nth (held file) i ≡ recAt file i
+    (cov : Covered (length rs) (length file / 36) (nth rs) (recordIn file) (length rs) s) where
+  each : (i : ℕ) → i < length file / 36 → nth (held file) i ≡ recordIn file i
   each i h = front-at (length file / 36) file blank i h
 
-  all-good : (j : ℕ) → j < s .limit → Good (length rs) (nth rs) (recAt file) j
+  all-good : (j : ℕ) → j < s .limit → Good (length rs) (nth rs) (recordIn file) j
   all-good j h = cov .good j h (omega (arith, at-small file j b))
 
   pub is-wrong : s .limit < length file / 36 → verdict rs (held file) ≡ refused wrongRecord (s .limit) 0
   is-wrong h =
-      verdict-wrong rs (held file) (length rs) (length file / 36) (nth rs) (recAt file) refl (held-length file) (λ k _. refl) each (s .limit) h
+      verdict-wrong rs (held file) (length rs) (length file / 36) (nth rs) (recordIn file) refl (held-length file) (λ k _. refl) each (s .limit) h
       all-good (cov .wrong h)
 
   pub is-lacking : length file / 36 ≤ s .limit → s .full ≡ false → verdict rs (held file) ≡ refused lacking (s .lack) 0
   is-lacking h t =
       let e : s .limit ≡ length file / 36 = omega (arith, cov .limit-le) in
       let z = rw t at (cov .told e) in
-      verdict-lacks rs (held file) (length rs) (length file / 36) (nth rs) (recAt file) refl (held-length file) (λ k _. refl) each
+      verdict-lacks rs (held file) (length rs) (length file / 36) (nth rs) (recordIn file) refl (held-length file) (λ k _. refl) each
       (λ j l. all-good j (omega arith)) (z .0) (z .1) (z .4) (z .3)
       ∙ ap (λ x. refused lacking x 0) (sym (z .2))
 
   pub is-done : length file / 36 ≤ s .limit → s .full ≡ true → verdict rs (held file) ≡ refused done 0 0
   is-done h t =
       let e : s .limit ≡ length file / 36 = omega (arith, cov .limit-le) in
-      verdict-done rs (held file) (length rs) (length file / 36) (nth rs) (recAt file) refl (held-length file) (λ k _. refl) each
+      verdict-done rs (held file) (length rs) (length file / 36) (nth rs) (recordIn file) refl (held-length file) (λ k _. refl) each
       (λ j l. all-good j (omega arith)) (rw t at (cov .told e))
 
 -- the first lacking has its `at` at a number equal to it

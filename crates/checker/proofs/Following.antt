@@ -20,7 +20,7 @@ use Rattle.verdict.specs.Meaning.{nth}
 use Rattle.checker.specs.declared.order.Run.{Run}
 use Rattle.checker.specs.declared.order.Ordered.{Ordered}
 use Rattle.checker.specs.declared.order.Ordered.the-variants as O
-use Rattle.checker.specs.Windows.{recAt}
+use Rattle.file.specs.File.{recordIn}
 use Rattle.checker.specs.Passing.{Fit, Orders, Goes, Ended}
 use Rattle.checker.proofs.Laying.{laid-at}
 
@@ -65,7 +65,7 @@ pub record So (s : List ℕ) (start : State) (file : List ℕ) (o : State) (run 
   pub rest : readFrom s start ≡ follow given (readFrom s o)
   pub within : run .done ≤ length file / 36
   pub count : run .agrees ≡ true → length given ≡ run .done
-  pub each : run .agrees ≡ true → Fit given → (k : ℕ) → k < length given → recAt file k ≡ nth given k
+  pub each : run .agrees ≡ true → Fit given → (k : ℕ) → k < length given → recordIn file k ≡ nth given k
 
 pub so-start : (s : List ℕ) (start : State) (file : List ℕ) (run : Run) → run .done ≡ 0 → So s start file start run
 so-start s start file run e = record {
@@ -79,11 +79,11 @@ so-start s start file run e = record {
 module _ (s : List ℕ) (start : State) (file : List ℕ) (o : State) (run : Run) (so : So s start file o run) where
   -- a stretch of c records more
   module _ (g : List Record) (c : ℕ) (w : List ℕ) (r : Run) (count : length g ≡ c) (room : c ≤ length w / 36)
-      (go : Goes run c (recAt (storedAll 0 g w)) file r) where
+      (go : Goes run c (recordIn (storedAll 0 g w)) file r) where
     more-count : r .agrees ≡ true → length (so .given ++ g) ≡ r .done
     more-count t = omega (arith, length-append (so .given) g, so .count (go .agreed t), go .done t)
 
-    more-each : r .agrees ≡ true → Fit (so .given ++ g) → (k : ℕ) → k < length (so .given ++ g) → recAt file k ≡ nth (so .given ++ g) k
+    more-each : r .agrees ≡ true → Fit (so .given ++ g) → (k : ℕ) → k < length (so .given ++ g) → recordIn file k ≡ nth (so .given ++ g) k
     more-each t fit k h = elim (decLt k (length (so .given))) [
       | yes l ↦ so .each (go .agreed t) (fit-left (so .given) g fit) k l ∙ sym (nth-left (so .given) g k l)
       | no l ↦
@@ -92,7 +92,7 @@ module _ (s : List ℕ) (start : State) (file : List ℕ) (o : State) (run : Run
           let i : run .done + q ≡ k = omega arith in
           let j : q < c = omega (arith, length-append (so .given) g) in
           let y : nth (so .given ++ g) (run .done + q) ≡ nth g q = rw d at (nth-right (so .given) g q) in
-          let e : recAt file (run .done + q) ≡ nth (so .given ++ g) (run .done + q)
+          let e : recordIn file (run .done + q) ≡ nth (so .given ++ g) (run .done + q)
           = go .each t q j ∙ laid-at g w (omega arith) (fit-right (so .given) g fit) q (omega arith) ∙ sym y in
           rw i at e
     ]
@@ -116,12 +116,12 @@ module _ (s : List ℕ) (start : State) (file : List ℕ) (o : State) (run : Run
     so-over e (O.Refused r) h = absurd h
 
   -- .. as a pass laid it
-  pub so-next : (w : List ℕ) (c : ℕ) → c ≤ length w / 36 → (to : State) (out : List ℕ) → Further s o w c to out → (r : Run) → Goes run c (recAt out) file r
+  pub so-next : (w : List ℕ) (c : ℕ) → c ≤ length w / 36 → (to : State) (out : List ℕ) → Further s o w c to out → (r : Run) → Goes run c (recordIn out) file r
       → So s start file to r
   so-next w c room to out f r go = so-on (f .given) c w r (f .count) room (rw (f .laid) at go) to (f .rest)
 
   pub so-last : (w out : List ℕ) (c : ℕ) (g : List Record) → readFrom s o ≡ records g → length g ≡ c → out ≡ storedAll 0 g w → c ≤ length w / 36
-      → (r : Run) → Goes run c (recAt out) file r → (x : Ordered) → Ended r file x → Orders s start file x
+      → (r : Run) → Goes run c (recordIn out) file r → (x : Ordered) → Ended r file x → Orders s start file x
   so-last w out c g e n laid room r go = so-over g c w r n room (rw laid at go) e
 
   pub so-refused : (f : Refusal) → readFrom s o ≡ refusal-of f → readFrom s start ≡ refusal-of f

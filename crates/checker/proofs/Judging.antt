@@ -1,9 +1,9 @@
 -- The answer for a text that is read to its end: what reading ensures of its records is what the passes ask for.
-use Prim.Native.Nat.{ℕ, zero, suc, _*_, _/_, _%_, _≤_, _<_}
+use Prim.Native.Nat.{ℕ, zero, suc, _*_, _/_, _%_, _≤_}
 use native.Mathlib.Nat.{le-of-suc-le-suc, not-suc-le-zero}
 use native.Mathlib.Omega.{arith}
-use mathlib.Core.Path.{_≡_, refl, sym, ap, _∙_}
-use mathlib.Core.Bool.{Bool, true, false, false≢true}
+use mathlib.Core.Path.{_≡_, sym, ap, _∙_}
+use mathlib.Core.Bool.{true, false, false≢true}
 use mathlib.Core.List.{List, [], _∷_}
 use lib.ListN.{length, length-replicate, replicate}
 use lib.Seq.{ext-getD}
@@ -22,12 +22,10 @@ use Rattle.reader.specs.declared.pass.Begun.{Begun}
 use Rattle.reader.specs.declared.pass.Begun.the-variants as B
 use Rattle.reader.specs.Passed.{readFrom, Begins}
 use Rattle.verdict.specs.Verdict.{blank, verdict, checked}
-use Rattle.verdict.specs.Meaning.{nth}
 use Rattle.verdict.proofs.Bridge.{verdict-in-order}
 use Rattle.verdict.proofs.Read.{reading-rises}
 use Rattle.checker.specs.declared.order.Ordered.{Ordered}
 use Rattle.checker.specs.declared.order.Ordered.the-variants as O
-use Rattle.checker.specs.Windows.{recAt}
 use Rattle.checker.specs.Passing.{Fit, Reads, InOrder, Orders}
 use Rattle.checker.proofs.Following.{same-records}
 

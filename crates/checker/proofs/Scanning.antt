@@ -12,7 +12,7 @@ use lib.ListN.{length, getD, set}
 use lib.Seq.{getD-set-same, getD-set-other}
 use borrow.Author.Tests.{le-ltb, ltb-false}
 use Rattle.record.specs.declared.Record.{Record}
-use Rattle.verdict.specs.Facts.{Met, Unmet, Good, Wrong}
+use Rattle.verdict.specs.Facts.{Good, Wrong}
 use Rattle.checker.specs.Windows.{Sorted, Lower, Finds, Inside, Scanned, Scans, AllClear, FirstClear, Windowed}
 
 -- one more

@@ -13,7 +13,7 @@ use Rattle.verdict.specs.Meaning.{nth, Rises}
 use Rattle.checker.specs.declared.order.Run.{Run}
 use Rattle.checker.specs.declared.order.Ordered.{Ordered}
 use Rattle.checker.specs.declared.order.Ordered.the-variants as O
-use Rattle.checker.specs.Windows.{recAt}
+use Rattle.file.specs.File.{recordIn}
 
 -- each record fits its bytes
 abbrev pub Fit : List Record → Type 0
@@ -27,7 +27,7 @@ pub record Reads (s : List ℕ) (o : State) (rs : List Record) : Type 0 where
 
 -- the file holds these records and no more, in this order, if they fit
 abbrev pub InOrder : List Record → List ℕ → Type 0
-InOrder rs file = Fit rs → (length file / 36 ≡ length rs) × ((k : ℕ) → k < length rs → recAt file k ≡ nth rs k)
+InOrder rs file = Fit rs → (length file / 36 ≡ length rs) × ((k : ℕ) → k < length rs → recordIn file k ≡ nth rs k)
 
 -- whether the file holds the records from the state on in their order; where it does not, only that there are such
 abbrev pub Orders : List ℕ → State → List ℕ → Ordered → Type 0
@@ -40,7 +40,7 @@ pub record Goes (run : Run) (c : ℕ) (w : ℕ → Record) (file : List ℕ) (r 
   pub within : r .done ≤ length file / 36
   pub agreed : r .agrees ≡ true → run .agrees ≡ true
   pub done : r .agrees ≡ true → r .done ≡ run .done + c
-  pub each : r .agrees ≡ true → (k : ℕ) → k < c → recAt file (run .done + k) ≡ w k
+  pub each : r .agrees ≡ true → (k : ℕ) → k < c → recordIn file (run .done + k) ≡ w k
 
 -- what a run shows at the end of the reading
 abbrev pub Ended : Run → List ℕ → Ordered → Type 0

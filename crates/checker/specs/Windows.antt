@@ -1,15 +1,10 @@
 -- What the inner functions of the checker ensure. Here f and w give the records of the file and of a window by their index.
-use Prim.Native.Nat.{ℕ, _*_, _≤_, _<_}
+use Prim.Native.Nat.{ℕ, _≤_, _<_}
 use mathlib.Core.Path.{_≡_}
 use mathlib.Core.List.{List}
-use lib.ListN.{getD, take, drop}
+use lib.ListN.{getD}
 use Rattle.record.specs.declared.Record.{Record}
-use Rattle.record.specs.Bytes.{decoded}
 use Rattle.verdict.specs.Facts.{Met, Unmet, Good, Wrong}
-
--- the record at an index of the bytes of records
-abbrev pub recAt : List ℕ → ℕ → Record
-recAt l i = decoded (take 36 (drop (36 * i) l))
 
 -- `at` rises over the first c records
 abbrev pub Sorted : (ℕ → Record) → ℕ → Type 0

@@ -4,13 +4,13 @@ ghost use Prim.Native.Nat.{_+_, _*_, _/_, _≤_, _<_};
 ghost use lib.ListN.{length, take, drop};
 ghost use Rattle.little.specs.Little.{number};
 ghost use Rattle.verdict.specs.Verdict.{same};
-ghost use Rattle.checker.specs.Windows.{recAt};
+ghost use Rattle.file.specs.File.{recordIn};
 use record::Record;
 
 // The `at` of record i.
 pub fn at_of(l: &[u8], i: usize) -> usize
     requires { ⌜ i < length (now l) / 36 ⌝ }
-    ensures { λ x. ⌜ (x ≡ recAt (now (l .entry)) i .at) × (x < 4294967296) ⌝ }
+    ensures { λ x. ⌜ (x ≡ recordIn (now (l .entry)) i .at) × (x < 4294967296) ⌝ }
 {
     four(l, Record::SIZE * i + Record::AT)
 }
@@ -18,7 +18,7 @@ pub fn at_of(l: &[u8], i: usize) -> usize
 // Whether record i of l and record j of m are equal: all 36 bytes are compared.
 pub fn same_record(l: &[u8], i: usize, m: &[u8], j: usize) -> bool
     requires { ⌜ (i < length (now l) / 36) × (j < length (now m) / 36) ⌝ }
-    ensures { λ b. ⌜ b ≡ same (recAt (now (l .entry)) i) (recAt (now (m .entry)) j) ⌝ }
+    ensures { λ b. ⌜ b ≡ same (recordIn (now (l .entry)) i) (recordIn (now (m .entry)) j) ⌝ }
 {
     let o = Record::SIZE * i;
     let p = Record::SIZE * j;

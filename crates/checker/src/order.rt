@@ -3,7 +3,7 @@ ghost use mathlib.Core.Path.{_≡_};
 ghost use mathlib.Core.Bool.{true};
 ghost use Prim.Native.Nat.{ℕ, _+_, _/_, _≤_, _<_};
 ghost use lib.ListN.{length};
-ghost use Rattle.checker.specs.Windows.{recAt};
+ghost use Rattle.file.specs.File.{recordIn};
 ghost use Rattle.checker.specs.Passing.{Orders, Goes, Ended, stretch};
 use crate::held::same_record;
 use reader::pass::Passed;
@@ -74,7 +74,7 @@ fn at_the_end(run: Run, file: &[u8]) -> Ordered
 // The run after a stretch of c records.
 fn run_after(run: Run, w: &[u8], c: usize, file: &[u8]) -> Run
     requires { ⌜ (c ≤ length (now w) / 36) × (run .done ≤ length (now file) / 36) ⌝ }
-    ensures { λ r. ⌜ Goes run c (recAt (now (w .entry))) (now (file .entry)) r ⌝ }
+    ensures { λ r. ⌜ Goes run c (recordIn (now (w .entry))) (now (file .entry)) r ⌝ }
 {
     let done = run.done;
     if run.agrees {
@@ -94,7 +94,7 @@ fn run_after(run: Run, w: &[u8], c: usize, file: &[u8]) -> Run
 // Whether the file has, from the index i on, the c records of the stretch.
 fn stands(w: &[u8], c: usize, file: &[u8], i: usize) -> bool
     requires { ⌜ (c ≤ length (now w) / 36) × (i ≤ length (now file) / 36) ⌝ }
-    ensures { λ b. ⌜ (b ≡ true → (i + c ≤ length (now (file .entry)) / 36) × ((k : ℕ) → k < c → recAt (now (file .entry)) (i + k) ≡ recAt (now (w .entry)) k)) ⌝ }
+    ensures { λ b. ⌜ (b ≡ true → (i + c ≤ length (now (file .entry)) / 36) × ((k : ℕ) → k < c → recordIn (now (file .entry)) (i + k) ≡ recordIn (now (w .entry)) k)) ⌝ }
 {
     if file.len() / Record::SIZE - i < c {
         return false;

@@ -1,8 +1,8 @@
 // A window: a stretch of the reading, held as bytes, and the one scan of the file that it takes.
-ghost use mathlib.Core.Path.{_≡_};
 ghost use Prim.Native.Nat.{_+_, _/_, _≤_, _<_};
 ghost use lib.ListN.{length};
-ghost use Rattle.checker.specs.Windows.{recAt, Sorted, Lower, Finds, Inside, Scans, AllClear, FirstClear, Windowed};
+ghost use Rattle.file.specs.File.{recordIn};
+ghost use Rattle.checker.specs.Windows.{Sorted, Lower, Finds, Inside, Scans, AllClear, FirstClear, Windowed};
 use crate::held::at_of;
 use crate::held::same_record;
 
@@ -23,8 +23,8 @@ pub fn window(
     c: usize,
     marks: &mut [u8],
 ) -> Step
-    requires { ⌜ (limit ≤ length (now file) / 36) × (c ≤ length (now w) / 36) × (c ≤ length (now marks)) × Sorted (recAt (now w)) c × Inside (recAt (now w)) c low high ⌝ }
-    ensures { λ s. ⌜ Windowed (recAt (now (file .entry))) (recAt (now (w .entry))) low high c limit (s .limit) (s .met) ⌝ }
+    requires { ⌜ (limit ≤ length (now file) / 36) × (c ≤ length (now w) / 36) × (c ≤ length (now marks)) × Sorted (recordIn (now w)) c × Inside (recordIn (now w)) c low high ⌝ }
+    ensures { λ s. ⌜ Windowed (recordIn (now (file .entry))) (recordIn (now (w .entry))) low high c limit (s .limit) (s .met) ⌝ }
 {
     clear(marks, c);
     let limit = scan(file, limit, low, high, w, c, marks);
@@ -43,8 +43,8 @@ fn scan(
     c: usize,
     marks: &mut [u8],
 ) -> usize
-    requires { ⌜ (limit ≤ length (now file) / 36) × (c ≤ length (now w) / 36) × (c ≤ length (now marks)) × Sorted (recAt (now w)) c × Inside (recAt (now w)) c low high × AllClear (now marks) c ⌝ }
-    ensures { λ i. ⌜ Scans (recAt (now (file .entry))) (recAt (now (w .entry))) low high c limit (now (marks .exit)) i ⌝ }
+    requires { ⌜ (limit ≤ length (now file) / 36) × (c ≤ length (now w) / 36) × (c ≤ length (now marks)) × Sorted (recordIn (now w)) c × Inside (recordIn (now w)) c low high × AllClear (now marks) c ⌝ }
+    ensures { λ i. ⌜ Scans (recordIn (now (file .entry))) (recordIn (now (w .entry))) low high c limit (now (marks .exit)) i ⌝ }
 {
     let mut i = 0;
     while i < limit {
@@ -68,8 +68,8 @@ fn scan(
 
 // The index of record i of the file among the first c of the window, or c.
 fn find(w: &[u8], c: usize, file: &[u8], i: usize) -> usize
-    requires { ⌜ (c ≤ length (now w) / 36) × (i < length (now file) / 36) × Sorted (recAt (now w)) c ⌝ }
-    ensures { λ p. ⌜ Finds (recAt (now (w .entry))) c (recAt (now (file .entry)) i) p ⌝ }
+    requires { ⌜ (c ≤ length (now w) / 36) × (i < length (now file) / 36) × Sorted (recordIn (now w)) c ⌝ }
+    ensures { λ p. ⌜ Finds (recordIn (now (w .entry))) c (recordIn (now (file .entry)) i) p ⌝ }
 {
     let p = lower(w, c, at_of(file, i));
     if p < c {
@@ -82,8 +82,8 @@ fn find(w: &[u8], c: usize, file: &[u8], i: usize) -> usize
 
 // The least of the first c indexes of the window whose `at` is x or more, or c.
 fn lower(w: &[u8], c: usize, x: usize) -> usize
-    requires { ⌜ (c ≤ length (now w) / 36) × Sorted (recAt (now w)) c ⌝ }
-    ensures { λ p. ⌜ Lower (recAt (now (w .entry))) c x p ⌝ }
+    requires { ⌜ (c ≤ length (now w) / 36) × Sorted (recordIn (now w)) c ⌝ }
+    ensures { λ p. ⌜ Lower (recordIn (now (w .entry))) c x p ⌝ }
 {
     let mut low = 0;
     let mut high = c;

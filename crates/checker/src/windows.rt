@@ -4,12 +4,12 @@ ghost use mathlib.Core.List.{List};
 ghost use Prim.Native.Nat.{ℕ, _+_, _/_, _≤_, _<_};
 ghost use lib.ListN.{length};
 ghost use Rattle.record.specs.declared.Record.{Record};
-ghost use Rattle.file.specs.File.{held};
+ghost use Rattle.file.specs.File.{held, recordIn};
 ghost use Rattle.grammar.specs.Reading.{records};
 ghost use Rattle.reader.specs.Passed.{readFrom};
 ghost use Rattle.verdict.specs.Verdict.{verdict};
 ghost use Rattle.verdict.specs.Meaning.{nth};
-ghost use Rattle.checker.specs.Windows.{recAt, Sorted, Inside};
+ghost use Rattle.checker.specs.Windows.{Sorted, Inside};
 ghost use Rattle.checker.specs.Covered.{Covered, Fills};
 ghost use Rattle.checker.specs.Passing.{Reads, width};
 use crate::held::at_of;
@@ -31,9 +31,9 @@ pub struct Seen {
 
 // What is seen after a window of c records up to `high`.
 fn seen_after(seen: Seen, file: &[u8], w: &[u8], c: usize, high: usize, marks: &mut [u8]) -> Seen
-    requires { ⌜ (seen .limit ≤ length (now file) / 36) × (c ≤ length (now w) / 36) × (c ≤ length (now marks)) × Sorted (recAt (now w)) c × Inside (recAt (now w)) c (seen .low) high × (high < 4294967296) ⌝ }
+    requires { ⌜ (seen .limit ≤ length (now file) / 36) × (c ≤ length (now w) / 36) × (c ≤ length (now marks)) × Sorted (recordIn (now w)) c × Inside (recordIn (now w)) c (seen .low) high × (high < 4294967296) ⌝ }
     ensures low { λ t. ⌜ t .low ≡ high + 1 ⌝ }
-    ensures covers { λ t. ⌜ ((m : ℕ) (r : ℕ → Record) (a : ℕ) → Covered m (length (now (file .entry)) / 36) r (recAt (now (file .entry))) a seen → Fills m r (recAt (now (w .entry))) a c high → Covered m (length (now (file .entry)) / 36) r (recAt (now (file .entry))) (a + c) t) ⌝ }
+    ensures covers { λ t. ⌜ ((m : ℕ) (r : ℕ → Record) (a : ℕ) → Covered m (length (now (file .entry)) / 36) r (recordIn (now (file .entry))) a seen → Fills m r (recordIn (now (w .entry))) a c high → Covered m (length (now (file .entry)) / 36) r (recordIn (now (file .entry))) (a + c) t) ⌝ }
 {
     let step = window(file, seen.limit, seen.low, high, w, c, marks);
     let low = high + 1;
@@ -61,7 +61,7 @@ fn seen_after(seen: Seen, file: &[u8], w: &[u8], c: usize, high: usize, marks: &
 // The verdict, where every record of the reading has been in a window.
 fn verdict_of(seen: Seen, file: &[u8]) -> Refusal
     requires { ⌜ 4294967296 ≤ seen .low ⌝ }
-    ensures { λ v. ⌜ ((rs : List Record) → Covered (length rs) (length (now (file .entry)) / 36) (nth rs) (recAt (now (file .entry))) (length rs) seen → v ≡ verdict rs (held (now (file .entry)))) ⌝ }
+    ensures { λ v. ⌜ ((rs : List Record) → Covered (length rs) (length (now (file .entry)) / 36) (nth rs) (recordIn (now (file .entry))) (length rs) seen → v ≡ verdict rs (held (now (file .entry)))) ⌝ }
 {
     if seen.limit < file.len() / Record::SIZE {
         return Refusal::wrong_record(seen.limit);

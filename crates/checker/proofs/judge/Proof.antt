@@ -1,7 +1,6 @@
 -- `judge` meets its contract: 13 is told by the length, and a file in the reading's order is accepted.
 use mathlib.Core.Path.{sym, _∙_}
 use borrow.Author.Needs.{needs}
-use native.Mathlib.Omega.{arith}
 use Rattle.checker.proofs.Judging.{not-whole-says, whole-says, same-done}
 use Rattle.checker.proofs.judge.Statement.{statement}
 use Rattle.checker.proofs.judge.Tie as tie

@@ -1,5 +1,4 @@
 -- `at_the_end` meets its contract: its tests are the two facts.
-use borrow.Author.Needs.{needs}
 use Rattle.checker.proofs.order.at_the_end.Statement.{statement}
 use Rattle.checker.proofs.order.at_the_end.Tie as tie
 

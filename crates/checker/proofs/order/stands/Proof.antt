@@ -9,12 +9,12 @@ use native.Mathlib.Nat.{not-suc-le-zero}
 use native.Mathlib.Omega.{arith}
 use lib.ListN.{length}
 use Rattle.verdict.proofs.Laws.{same-equal}
-use Rattle.checker.specs.Windows.{recAt}
+use Rattle.file.specs.File.{recordIn}
 use Rattle.checker.proofs.order.stands.Statement.{statement}
 use Rattle.checker.proofs.order.stands.Tie as tie
 
 abbrev Inv-loop : tie.InvT-loop
-Inv-loop w c file i k₀ k = (k ≤ c) × (i + c ≤ length file / 36) × ((j : ℕ) → j < k → recAt file (i + j) ≡ recAt w j)
+Inv-loop w c file i k₀ k = (k ≤ c) × (i + c ≤ length file / 36) × ((j : ℕ) → j < k → recordIn file (i + j) ≡ recordIn w j)
 
 abbrev μ-loop : tie.MeasureT-loop
 μ-loop w c file i k₀ k = c - k

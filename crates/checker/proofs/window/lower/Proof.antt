@@ -2,13 +2,13 @@
 use Prim.Native.Nat.{_-_}
 use borrow.Author.Needs.{needs}
 use native.Mathlib.Omega.{arith}
-use Rattle.checker.specs.Windows.{recAt}
+use Rattle.file.specs.File.{recordIn}
 use Rattle.checker.proofs.Scanning.{Bracket, bracket-start, bracket-up, bracket-down}
 use Rattle.checker.proofs.window.lower.Statement.{statement}
 use Rattle.checker.proofs.window.lower.Tie as tie
 
 abbrev Inv-loop : tie.InvT-loop
-Inv-loop w c x low₀ high₀ low high = Bracket (recAt w) c x low high
+Inv-loop w c x low₀ high₀ low high = Bracket (recordIn w) c x low high
 
 abbrev μ-loop : tie.MeasureT-loop
 μ-loop w c x low₀ high₀ low high = high - low

@@ -5,13 +5,14 @@ use mathlib.Core.Logic.{inl}
 use borrow.Author.Needs.{needs}
 use native.Mathlib.Omega.{arith}
 use lib.ListN.{length, length-set}
-use Rattle.checker.specs.Windows.{recAt, Scanned}
+use Rattle.file.specs.File.{recordIn}
+use Rattle.checker.specs.Windows.{Scanned}
 use Rattle.checker.proofs.Scanning.{scanned-start, scanned-skip, scanned-mark, scanned-again, outside, between}
 use Rattle.checker.proofs.window.scan.Statement.{statement}
 use Rattle.checker.proofs.window.scan.Tie as tie
 
 abbrev Inv-loop : tie.InvT-loop
-Inv-loop file limit low high w c marks₀ i₀ marks i = (i ≤ limit) × (length marks ≡ length marks₀) × Scanned (recAt file) (recAt w) low high c marks i
+Inv-loop file limit low high w c marks₀ i₀ marks i = (i ≤ limit) × (length marks ≡ length marks₀) × Scanned (recordIn file) (recordIn w) low high c marks i
 
 abbrev μ-loop : tie.MeasureT-loop
 μ-loop file limit low high w c marks₀ i₀ marks i = limit - i
