@@ -3,7 +3,7 @@ ghost use mathlib.Core.Path.{_≡_};
 ghost use mathlib.Core.Bool.{true};
 ghost use Prim.Native.Nat.{_≤_};
 ghost use lib.ListN.{length};
-ghost use Rattle.lexer.specs.Bytes.{isLetter, isSpace, isDigit, isAscii, goesOn, classOf};
+ghost use Rattle.lexer.specs.Bytes.{isLetter, isSpace, isDigit, isAscii, inNumber, goesOn, classOf};
 ghost use Rattle.lexer.specs.Run.{past};
 
 // What a byte starts.
@@ -49,16 +49,20 @@ fn is_digit(b: u8) -> bool
 pub fn class_of(b: u8) -> Class
     ensures { λ r. ⌜ r ≡ classOf b ⌝ }
 {
-    if is_letter(b) {
-        Class::Letter
-    } else if is_space(b) {
+    if b == b' ' {
         Class::Space
-    } else if is_digit(b) | (b == b'-') {
+    } else if is_digit(b) {
         Class::Digit
+    } else if is_letter(b) {
+        Class::Letter
     } else if b == b';' {
         Class::SemiColon
+    } else if b == b'-' {
+        Class::Digit
     } else if b == b'\n' {
         Class::NewLine
+    } else if is_space(b) {
+        Class::Space
     } else if b == b'"' {
         Class::Quote
     } else if b == b'#' {
@@ -68,12 +72,19 @@ pub fn class_of(b: u8) -> Class
     }
 }
 
+// A number has more digits than points, so those are tested for first.
+fn in_number(b: u8) -> bool
+    ensures { λ r. ⌜ r ≡ inNumber b ⌝ }
+{
+    if is_digit(b) { true } else { b == b'.' }
+}
+
 fn goes_on(run: Run, b: u8) -> bool
     ensures { λ r. ⌜ r ≡ goesOn run b ⌝ }
 {
     match run {
         Run::Name => !(is_space(b) | (b == b'\n')),
-        Run::Number => is_digit(b) | (b == b'.'),
+        Run::Number => in_number(b),
         Run::StringLiteral => b != b'"',
         Run::Comment => b != b'\n',
         Run::Ascii => b <= 127,

@@ -1,5 +1,6 @@
 // Counts the records of a text many times, as often as the first line of standard input has bytes; the text follows that line. The
-// answer is printed. A record buffer of no bytes has `read` count and write nothing.
+// answer is printed. A record buffer of no bytes has `read` count and write nothing. Where a byte 255 ends the text, a record file
+// follows it, and is checked against the text as often.
 ghost use mathlib.Core.Path.{_≡_};
 ghost use lib.ListN.{length};
 use reader::reading;
@@ -12,18 +13,24 @@ fn main() {
     measure(&input[..n]);
 }
 
-// Room for the longest text that the library reads and the line before it.
-fn room() -> [u8; 16777472]
-    ensures { λ r. ⌜ 16777472 ≡ length r ⌝ }
+// Room for the longest text that the library reads, with the line before it, and for a million records.
+fn room() -> [u8; 54800000]
+    ensures { λ r. ⌜ 54800000 ≡ length r ⌝ }
 {
-    [0; 16777472]
+    [0; 54800000]
 }
 
 fn measure(input: &[u8]) {
     let times = vectors::next_of(b'\n', input, 0);
     if times < input.len() {
         let from = times + 1;
-        answer(times, &input[from..]);
+        let mark = vectors::next_of(255, input, from);
+        if mark < input.len() {
+            let after = mark + 1;
+            check(times, &input[from..mark], &input[after..]);
+        } else {
+            answer(times, &input[from..]);
+        }
     }
 }
 
@@ -33,11 +40,26 @@ fn answer(times: usize, text: &[u8]) {
         let a = count(text);
         i += 1;
         if i == times {
-            say::number(a.number as u64);
-            say::number(a.place as u64);
-            say::newline();
+            said(a);
         }
     }
+}
+
+fn check(times: usize, text: &[u8], file: &[u8]) {
+    let mut i = 0;
+    while i < times {
+        let a = checker::check(text, file);
+        i += 1;
+        if i == times {
+            said(a);
+        }
+    }
+}
+
+fn said(a: Refusal) {
+    say::number(a.number as u64);
+    say::number(a.place as u64);
+    say::newline();
 }
 
 fn count(text: &[u8]) -> Refusal {

@@ -4,15 +4,6 @@ use Rattle.checker.proofs.Judging.{text-refused, begun-refused, begun-a
 use Rattle.checker.proofs.check.Statement.{statement}
 use Rattle.checker.proofs.check.Tie as tie
 
-begin-requires : tie.Need-begin-requires
-begin-requires c κs = search needs
-
-enum-known-refusal : tie.Need-enum-known-refusal
-enum-known-refusal c = search needs
-
-enum-known-start : tie.Need-enum-known-start
-enum-known-start c = search needs
-
 check-from-requires : tie.Need-check-from-requires
 check-from-requires c κs = begun-at (c .before .before .before .before .before .before .args .text .now) _ (c .before .before .before .begin .ensures) _ (c .before .start .given .1)
 
@@ -25,10 +16,4 @@ returns-2 c = c .check-from .ensures
 pub check-spec : {M : Type 1} → statement M
 check-spec =
     tie.close
-    (tie.spec
-    begin-requires
-    enum-known-refusal
-    enum-known-start
-    check-from-requires
-    returns
-    returns-2)
+    (tie.spec (λ c κs. search needs) (λ c. search needs) (λ c. search needs) check-from-requires returns returns-2)

@@ -4,22 +4,10 @@ use Rattle.checker.proofs.Judging.{text-refused, order-refused, order-s
 use Rattle.checker.proofs.check_from.Statement.{statement}
 use Rattle.checker.proofs.check_from.Tie as tie
 
-in-order-requires : tie.Need-in-order-requires
-in-order-requires c κs = search needs
-
-enum-known-refusal : tie.Need-enum-known-refusal
-enum-known-refusal c = search needs
-
-enum-told : tie.Need-enum-told
-enum-told c = search needs
-
 judge-requires : tie.Need-judge-requires
 judge-requires c κs =
     let s = c .before .before .before .before .before in
     order-same (s .args .text .now) (s .args .start) (s .pre) (s .args .file .now) _ (c .before .before .in-order .ensures) (c .enum-told .given .1)
-
-enum-told-2 : tie.Need-enum-told-2
-enum-told-2 c = search needs
 
 judge-requires-2 : tie.Need-judge-requires-2
 judge-requires-2 c κs =
@@ -46,13 +34,5 @@ returns-3 c =
 pub check-from-spec : {M : Type 1} → statement M
 check-from-spec =
     tie.close
-    (tie.spec
-    in-order-requires
-    enum-known-refusal
-    enum-told
-    judge-requires
-    enum-told-2
-    judge-requires-2
-    returns
-    returns-2
-    returns-3)
+    (tie.spec (λ c κs. search needs) (λ c. search needs) (λ c. search needs) judge-requires (λ c. search needs) judge-requires-2 returns
+    returns-2 returns-3)

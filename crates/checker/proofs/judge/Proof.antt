@@ -5,14 +5,8 @@ use Rattle.checker.proofs.Judging.{not-whole-says, whole-says, same-don
 use Rattle.checker.proofs.judge.Statement.{statement}
 use Rattle.checker.proofs.judge.Tie as tie
 
-not-whole-requires : tie.Need-not-whole-requires
-not-whole-requires c κs = search needs
-
 returns : tie.Need-returns
 returns c = λ rs e. c .not-whole .ensures ∙ sym (not-whole-says rs (c .before .before .before .before .args .file .now) (c .before .if1 .taken))
-
-done-requires : tie.Need-done-requires
-done-requires c κs = search needs
 
 returns-2 : tie.Need-returns-2
 returns-2 c =
@@ -33,10 +27,4 @@ returns-3 c =
 pub judge-spec : {M : Type 1} → statement M
 judge-spec =
     tie.close
-    (tie.spec
-    not-whole-requires
-    returns
-    done-requires
-    returns-2
-    by-windows-requires
-    returns-3)
+    (tie.spec (λ c κs. search needs) returns (λ c κs. search needs) returns-2 by-windows-requires returns-3)

@@ -6,4 +6,4 @@ use Rattle.measure.proofs.room.Statement.{statement}
 use Rattle.measure.proofs.room.Tie as tie
 
 pub room-spec : {M : Type 1} → statement M
-room-spec = tie.close (tie.spec (λ c. sym (length-replicate {A = ℕ} 16777472 0)))
+room-spec = tie.close (tie.spec (λ c. sym (length-replicate {A = ℕ} 54800000 0)))

@@ -6,15 +6,6 @@ use Rattle.checker.proofs.Bytes.{at-bytes}
 use Rattle.checker.proofs.held.at_of.Statement.{statement}
 use Rattle.checker.proofs.held.at_of.Tie as tie
 
-mul-four : tie.Need-mul-four
-mul-four c = search needs
-
-add-four : tie.Need-add-four
-add-four c = search needs
-
-four-requires : tie.Need-four-requires
-four-requires c κs = search needs
-
 returns : tie.Need-returns
 returns c =
     let a = c .before .before .args in
@@ -23,8 +14,4 @@ returns c =
 pub at-of-spec : {M : Type 1} → statement M
 at-of-spec =
     tie.close
-    (tie.spec
-    mul-four
-    add-four
-    four-requires
-    returns)
+    (tie.spec (λ c. search needs) (λ c. search needs) (λ c κs. search needs) returns)

@@ -14,7 +14,4 @@ returns-3 c = tt
 pub at-the-end-spec : {M : Type 1} → statement M
 at-the-end-spec =
     tie.close
-    (tie.spec
-    returns
-    returns-2
-    returns-3)
+    (tie.spec returns returns-2 returns-3)

@@ -6,9 +6,6 @@ use Rattle.checker.proofs.Judging.{room36}
 use Rattle.checker.proofs.order.in_order.Statement.{statement}
 use Rattle.checker.proofs.order.in_order.Tie as tie
 
-slice-aggregate-stretches : tie.Need-slice-aggregate-stretches
-slice-aggregate-stretches c = search needs
-
 stretches-requires : tie.Need-stretches-requires
 stretches-requires c κs = room36 stretchBytes stretch 0 (omega arith)
 
@@ -18,7 +15,4 @@ returns c = c .before .stretches .ensures
 pub in-order-spec : {M : Type 1} → statement M
 in-order-spec =
     tie.close
-    (tie.spec
-    slice-aggregate-stretches
-    stretches-requires
-    returns)
+    (tie.spec (λ c. search needs) stretches-requires returns)

@@ -6,9 +6,6 @@ use native.Mathlib.Omega.{arith}
 use Rattle.checker.proofs.order.run_after.Statement.{statement}
 use Rattle.checker.proofs.order.run_after.Tie as tie
 
-stands-requires : tie.Need-stands-requires
-stands-requires c κs = search needs
-
 add-t8 : tie.Need-add-t8
 add-t8 c = omega (arith, c .before .stands .ensures (c .if2 .taken) .0)
 
@@ -26,9 +23,4 @@ returns-3 c = record { within = c .before .before .before .pre .1; agreed = λ e
 pub run-after-spec : {M : Type 1} → statement M
 run-after-spec =
     tie.close
-    (tie.spec
-    stands-requires
-    add-t8
-    returns
-    returns-2
-    returns-3)
+    (tie.spec (λ c κs. search needs) add-t8 returns returns-2 returns-3)

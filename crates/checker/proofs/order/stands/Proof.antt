@@ -19,29 +19,14 @@ Inv-loop w c file i k₀ k = (k ≤ c) × (i + c ≤ length file / 36) × ((j : 
 abbrev μ-loop : tie.MeasureT-loop
 μ-loop w c file i k₀ k = c - k
 
-sub-if1 : tie.Need-sub-if1 Inv-loop μ-loop
-sub-if1 c = search needs
-
 returns : tie.Need-returns Inv-loop μ-loop
 returns c = λ e. absurd (false≢true e)
 
 loop-holds : tie.Need-loop-holds Inv-loop μ-loop
 loop-holds c = (omega arith, omega arith, λ j h. absurd (not-suc-le-zero h))
 
-add-same-record : tie.Need-add-same-record Inv-loop μ-loop
-add-same-record c = search needs
-
-same-record-requires : tie.Need-same-record-requires Inv-loop μ-loop
-same-record-requires c κs = search needs
-
 returns-2 : tie.Need-returns-2 Inv-loop μ-loop
 returns-2 c = λ e. absurd (false≢true e)
-
-add-k : tie.Need-add-k Inv-loop μ-loop
-add-k c = search needs
-
-loop-less : tie.Need-loop-less Inv-loop μ-loop
-loop-less c = search needs
 
 loop-again : tie.Need-loop-again Inv-loop μ-loop
 loop-again c = (omega arith, omega arith, below-more _ _ (c .before .before .before .loop .inv .2) (same-equal _ _ (sym (c .before .same-record .ensures) ∙ not-false _ (c .if2 .left))))
@@ -52,16 +37,5 @@ returns-3 c = λ _. (omega arith, λ k h. c .before .loop .inv .2 k (omega arith
 pub stands-spec : {M : Type 1} → statement M
 stands-spec =
     tie.close
-    (tie.spec
-    Inv-loop
-    μ-loop
-    sub-if1
-    returns
-    loop-holds
-    add-same-record
-    same-record-requires
-    returns-2
-    add-k
-    loop-less
-    loop-again
-    returns-3)
+    (tie.spec Inv-loop μ-loop (λ c. search needs) returns loop-holds (λ c. search needs) (λ c κs. search needs) returns-2
+    (λ c. search needs) (λ c. search needs) loop-again returns-3)

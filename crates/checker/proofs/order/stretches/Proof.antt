@@ -21,27 +21,12 @@ loop-holds c =
     let a = c .before .before .before .args in
     (so-start (a .text .now) (a .start) (a .file .now) _ refl, refl)
 
-pass-requires : tie.Need-pass-requires Inv-loop μ-loop
-pass-requires c κs = search needs
-
-enum-known-refusal : tie.Need-enum-known-refusal Inv-loop μ-loop
-enum-known-refusal c = search needs
-
-enum-known-c : tie.Need-enum-known-c Inv-loop μ-loop
-enum-known-c c = search needs
-
 run-after-requires : tie.Need-run-after-requires Inv-loop μ-loop
 run-after-requires c κs =
     let l = c .before .before .before .before .before .before .before .before .loop in
     let a = c .before .before .before .before .before .before .before .before .before .before .before .before .args in
     let p = went-over (a .text .now) (l .st) stretch (l .w) _ _ (c .before .before .before .before .before .before .pass .ensures) _ (c .before .before .c .given .1) in
     (omega (arith, p .3, c .before .before .before .before .before .before .before .before .before .before .before .before .pre, l .inv .1), l .inv .0 .within)
-
-at-the-end-requires : tie.Need-at-the-end-requires Inv-loop μ-loop
-at-the-end-requires c κs = search needs
-
-enum-known-next : tie.Need-enum-known-next Inv-loop μ-loop
-enum-known-next c = search needs
 
 run-after-requires-2 : tie.Need-run-after-requires-2 Inv-loop μ-loop
 run-after-requires-2 c κs =
@@ -61,17 +46,11 @@ loop-again c =
     let f = went-on (a .text .now) (l .st) stretch (l .w) _ _ (c .before .before .before .before .before .before .before .pass .ensures) _ (c .before .before .before .next .given .1) in
     (so-next (a .text .now) (a .start) (a .file .now) (l .st) (l .run) (l .inv .0) (l .w) stretch (omega (arith, c .before .before .before .before .before .before .before .before .before .before .before .before .before .pre, l .inv .1)) _ _ f _ (c .run-after2 .ensures), ap length (f .laid) ∙ laid-length (f .given) 0 (l .w) ∙ l .inv .1)
 
-same-length : tie.Need-same-length Inv-loop μ-loop
-same-length c = search needs
-
 returns : tie.Need-returns Inv-loop μ-loop
 returns c =
     let l = c .before .before .before .before .before .before .before .loop in
     let a = c .before .before .before .before .before .before .before .before .before .before .before .args in
     so-refused (a .text .now) (a .start) (a .file .now) (l .st) (l .run) (l .inv .0) _ (went-wrong (a .text .now) (l .st) stretch (l .w) _ _ (c .before .before .before .before .before .pass .ensures) _ (c .before .refusal .given .1))
-
-same-length-2 : tie.Need-same-length-2 Inv-loop μ-loop
-same-length-2 c = search needs
 
 returns-2 : tie.Need-returns-2 Inv-loop μ-loop
 returns-2 c =
@@ -83,20 +62,6 @@ returns-2 c =
 pub stretches-spec : {M : Type 1} → statement M
 stretches-spec =
     tie.close
-    (tie.spec
-    Inv-loop
-    μ-loop
-    loop-holds
-    pass-requires
-    enum-known-refusal
-    enum-known-c
-    run-after-requires
-    at-the-end-requires
-    enum-known-next
-    run-after-requires-2
-    loop-less
-    loop-again
-    same-length
-    returns
-    same-length-2
+    (tie.spec Inv-loop μ-loop loop-holds (λ c κs. search needs) (λ c. search needs) (λ c. search needs) run-after-requires
+    (λ c κs. search needs) (λ c. search needs) run-after-requires-2 loop-less loop-again (λ c. search needs) returns (λ c. search needs)
     returns-2)

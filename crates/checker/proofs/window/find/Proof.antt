@@ -8,15 +8,6 @@ use Rattle.checker.proofs.Scanning.{nowhere}
 use Rattle.checker.proofs.window.find.Statement.{statement}
 use Rattle.checker.proofs.window.find.Tie as tie
 
-at-of-requires : tie.Need-at-of-requires
-at-of-requires c κs = search needs
-
-lower-requires : tie.Need-lower-requires
-lower-requires c κs = search needs
-
-same-record-requires : tie.Need-same-record-requires
-same-record-requires c κs = search needs
-
 returns : tie.Need-returns
 returns c = record { within = omega arith; here = λ _. same-equal _ _ (sym (c .before .same-record .ensures) ∙ c .if2 .taken); nowhere = λ e. absurd (omega arith) }
 
@@ -29,10 +20,4 @@ returns-3 c = nowhere _ _ _ _ (c .before .before .before .before .before .pre .2
 pub find-spec : {M : Type 1} → statement M
 find-spec =
     tie.close
-    (tie.spec
-    at-of-requires
-    lower-requires
-    same-record-requires
-    returns
-    returns-2
-    returns-3)
+    (tie.spec (λ c κs. search needs) (λ c κs. search needs) (λ c κs. search needs) returns returns-2 returns-3)

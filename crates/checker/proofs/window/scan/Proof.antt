@@ -20,36 +20,15 @@ abbrev μ-loop : tie.MeasureT-loop
 loop-holds : tie.Need-loop-holds Inv-loop μ-loop
 loop-holds c = (omega arith, omega arith, scanned-start (c .before .before .before .pre .5))
 
-at-of-requires : tie.Need-at-of-requires Inv-loop μ-loop
-at-of-requires c κs = search needs
-
-add-i : tie.Need-add-i Inv-loop μ-loop
-add-i c = search needs
-
-loop-less : tie.Need-loop-less Inv-loop μ-loop
-loop-less c = search needs
-
 loop-again : tie.Need-loop-again Inv-loop μ-loop
 loop-again c =
     let l = c .before .before .before .loop in
     (omega arith, l .inv .1, scanned-skip (l .inv .2) (c .before .before .before .before .before .before .before .pre .4) (λ p q. outside (c .before .at-of .result) (c .before .before .before .before .before .before .before .args .low) (c .before .before .before .before .before .before .before .args .high) (c .if1 .taken) (omega (arith, c .before .at-of .ensures .0)) (omega (arith, c .before .at-of .ensures .0))))
 
-find-requires : tie.Need-find-requires Inv-loop μ-loop
-find-requires c κs = search needs
-
-same-length : tie.Need-same-length Inv-loop μ-loop
-same-length c = search needs
-
 returns : tie.Need-returns Inv-loop μ-loop
 returns c =
     let b = between (c .before .before .before .at-of .result) (c .before .before .before .before .before .before .before .before .before .args .low) (c .before .before .before .before .before .before .before .before .before .args .high) (c .before .before .if1 .left) in
     record { within = omega arith; scanned = c .before .before .before .before .before .loop .inv .2; stop = λ _. (omega (arith, c .before .before .before .at-of .ensures .0), omega (arith, c .before .before .before .at-of .ensures .0), inl (c .before .find .ensures .nowhere (c .if2 .taken))) }
-
-slice-read-if3 : tie.Need-slice-read-if3 Inv-loop μ-loop
-slice-read-if3 c = search needs
-
-same-length-2 : tie.Need-same-length-2 Inv-loop μ-loop
-same-length-2 c = search needs
 
 returns-2 : tie.Need-returns-2 Inv-loop μ-loop
 returns-2 c =
@@ -57,23 +36,11 @@ returns-2 c =
     let h = c .before .before .before .find .ensures .here (omega (arith, c .before .before .before .find .ensures .within)) in
     record { within = omega arith; scanned = c .before .before .before .before .before .before .before .loop .inv .2; stop = λ _. (omega (arith, c .before .before .before .before .before .at-of .ensures .0), omega (arith, c .before .before .before .before .before .at-of .ensures .0), scanned-again (c .before .before .before .before .before .before .before .loop .inv .2) (omega (arith, c .before .before .before .find .ensures .within)) h (c .if3 .taken)) }
 
-slice-write-marks : tie.Need-slice-write-marks Inv-loop μ-loop
-slice-write-marks c = search needs
-
-add-i-2 : tie.Need-add-i-2 Inv-loop μ-loop
-add-i-2 c = search needs
-
-loop-less-2 : tie.Need-loop-less-2 Inv-loop μ-loop
-loop-less-2 c = search needs
-
 loop-again-2 : tie.Need-loop-again-2 Inv-loop μ-loop
 loop-again-2 c =
     let h = c .before .before .before .find .ensures .here (omega (arith, c .before .before .before .find .ensures .within)) in
     let l = c .before .before .before .before .before .before .before .loop in
     (omega arith, simp length-set (l .inv .1), scanned-mark (l .inv .2) (omega (arith, c .before .before .before .find .ensures .within)) (omega arith) h (c .if3 .left) (c .before .before .before .before .before .before .before .before .before .before .before .pre .3))
-
-same-length-3 : tie.Need-same-length-3 Inv-loop μ-loop
-same-length-3 c = search needs
 
 returns-3 : tie.Need-returns-3 Inv-loop μ-loop
 returns-3 c =
@@ -83,23 +50,6 @@ returns-3 c =
 pub scan-spec : {M : Type 1} → statement M
 scan-spec =
     tie.close
-    (tie.spec
-    Inv-loop
-    μ-loop
-    loop-holds
-    at-of-requires
-    add-i
-    loop-less
-    loop-again
-    find-requires
-    same-length
-    returns
-    slice-read-if3
-    same-length-2
-    returns-2
-    slice-write-marks
-    add-i-2
-    loop-less-2
-    loop-again-2
-    same-length-3
-    returns-3)
+    (tie.spec Inv-loop μ-loop loop-holds (λ c κs. search needs) (λ c. search needs) (λ c. search needs) loop-again (λ c κs. search needs)
+    (λ c. search needs) returns (λ c. search needs) (λ c. search needs) returns-2 (λ c. search needs) (λ c. search needs)
+    (λ c. search needs) loop-again-2 (λ c. search needs) returns-3)

@@ -14,20 +14,8 @@ Inv-loop marks c k₀ k = (k ≤ c) × ((j : ℕ) → j < k → getD marks j 0 �
 abbrev μ-loop : tie.MeasureT-loop
 μ-loop marks c k₀ k = c - k
 
-loop-holds : tie.Need-loop-holds Inv-loop μ-loop
-loop-holds c = search needs
-
-shared-slice-read-if1 : tie.Need-shared-slice-read-if1 Inv-loop μ-loop
-shared-slice-read-if1 c = search needs
-
 returns : tie.Need-returns Inv-loop μ-loop
 returns c = record { within = omega arith; before = c .before .before .before .loop .inv .1; here = λ _. c .if1 .taken }
-
-add-k : tie.Need-add-k Inv-loop μ-loop
-add-k c = search needs
-
-loop-less : tie.Need-loop-less Inv-loop μ-loop
-loop-less c = search needs
 
 loop-again : tie.Need-loop-again Inv-loop μ-loop
 loop-again c = (search needs, below-more _ _ (c .before .before .before .loop .inv .1) (c .if1 .left))
@@ -38,13 +26,4 @@ returns-2 c = record { within = omega arith; before = λ k h. c .before .loop .i
 pub unmarked-spec : {M : Type 1} → statement M
 unmarked-spec =
     tie.close
-    (tie.spec
-    Inv-loop
-    μ-loop
-    loop-holds
-    shared-slice-read-if1
-    returns
-    add-k
-    loop-less
-    loop-again
-    returns-2)
+    (tie.spec Inv-loop μ-loop (λ c. search needs) (λ c. search needs) returns (λ c. search needs) (λ c. search needs) loop-again returns-2)

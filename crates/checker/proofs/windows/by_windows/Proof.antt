@@ -6,12 +6,6 @@ use Rattle.checker.proofs.Judging.{room36, room}
 use Rattle.checker.proofs.windows.by_windows.Statement.{statement}
 use Rattle.checker.proofs.windows.by_windows.Tie as tie
 
-slice-aggregate-windows : tie.Need-slice-aggregate-windows
-slice-aggregate-windows c = search needs
-
-slice-aggregate-windows-2 : tie.Need-slice-aggregate-windows-2
-slice-aggregate-windows-2 c = search needs
-
 windows-requires : tie.Need-windows-requires
 windows-requires c κs = (room36 widthBytes width 0 (omega arith), room width width 0 (omega arith), c .before .before .before .before .pre)
 
@@ -21,8 +15,4 @@ returns c = c .before .before .windows .ensures
 pub by-windows-spec : {M : Type 1} → statement M
 by-windows-spec =
     tie.close
-    (tie.spec
-    slice-aggregate-windows
-    slice-aggregate-windows-2
-    windows-requires
-    returns)
+    (tie.spec (λ c. search needs) (λ c. search needs) windows-requires returns)

@@ -7,24 +7,15 @@ use Rattle.checker.proofs.Covering.{is-wrong, is-lacking, is-done}
 use Rattle.checker.proofs.windows.verdict_of.Statement.{statement}
 use Rattle.checker.proofs.windows.verdict_of.Tie as tie
 
-wrong-record-requires : tie.Need-wrong-record-requires
-wrong-record-requires c κs = search needs
-
 returns : tie.Need-returns
 returns c =
     let s = c .before .before .before .before in
     λ rs cov. c .wrong-record .ensures ∙ sym (is-wrong rs (s .args .file .now) (λ i. omega (arith, c .before .before .before .shared-slice-known .given i)) (s .args .seen) (s .pre) cov (c .before .if1 .taken))
 
-lacking-requires : tie.Need-lacking-requires
-lacking-requires c κs = search needs
-
 returns-2 : tie.Need-returns-2
 returns-2 c =
     let s = c .before .before .before .before .before .before in
     λ rs cov. c .lacking .ensures ∙ sym (is-lacking rs (s .args .file .now) (λ i. omega (arith, c .before .before .before .before .before .shared-slice-known .given i)) (s .args .seen) (s .pre) cov (omega (arith, c .before .before .before .if1 .left)) (not-true _ (c .before .if2 .taken)))
-
-done-requires : tie.Need-done-requires
-done-requires c κs = search needs
 
 returns-3 : tie.Need-returns-3
 returns-3 c =
@@ -34,10 +25,4 @@ returns-3 c =
 pub verdict-of-spec : {M : Type 1} → statement M
 verdict-of-spec =
     tie.close
-    (tie.spec
-    wrong-record-requires
-    returns
-    lacking-requires
-    returns-2
-    done-requires
-    returns-3)
+    (tie.spec (λ c κs. search needs) returns (λ c κs. search needs) returns-2 (λ c κs. search needs) returns-3)

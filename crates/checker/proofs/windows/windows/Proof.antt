@@ -22,15 +22,6 @@ loop-holds c =
     let s = c .before .before .before .before in
     (under-start (s .args .text .now) (s .args .start) (s .args .file .now) _ (s .pre .2 .0) (s .pre .2 .1) refl refl refl, refl, refl)
 
-pass-requires : tie.Need-pass-requires Inv-loop μ-loop
-pass-requires c κs = search needs
-
-enum-known-refusal : tie.Need-enum-known-refusal Inv-loop μ-loop
-enum-known-refusal c = search needs
-
-enum-known-c : tie.Need-enum-known-c Inv-loop μ-loop
-enum-known-c c = search needs
-
 seen-after-requires : tie.Need-seen-after-requires Inv-loop μ-loop
 seen-after-requires c κs =
     let l = c .before .before .before .before .before .before .before .before .before .loop in
@@ -47,15 +38,6 @@ seen-after-requires c κs =
 
 verdict-of-requires : tie.Need-verdict-of-requires Inv-loop μ-loop
 verdict-of-requires c κs = omega (arith, c .before .before .seen-after .ensures .0)
-
-enum-known-next : tie.Need-enum-known-next Inv-loop μ-loop
-enum-known-next c = search needs
-
-sub-at-of : tie.Need-sub-at-of Inv-loop μ-loop
-sub-at-of c = search needs
-
-at-of-requires : tie.Need-at-of-requires Inv-loop μ-loop
-at-of-requires c κs = search needs
 
 seen-after-requires-2 : tie.Need-seen-after-requires-2 Inv-loop μ-loop
 seen-after-requires-2 c κs =
@@ -88,23 +70,11 @@ loop-again c =
       omega arith,
     )
 
-same-length : tie.Need-same-length Inv-loop μ-loop
-same-length c = search needs
-
-same-length-2 : tie.Need-same-length-2 Inv-loop μ-loop
-same-length-2 c = search needs
-
 returns : tie.Need-returns Inv-loop μ-loop
 returns c =
     let l = c .before .before .before .before .before .before .before .loop in
     let s = c .before .before .before .before .before .before .before .before .before .before .before .before in
     λ rs e. absurd (never-refused (l .inv .0) _ (went-wrong (s .args .text .now) (l .st) width (l .w) _ _ (c .before .before .before .before .before .pass .ensures) _ (c .before .refusal .given .1)))
-
-same-length-3 : tie.Need-same-length-3 Inv-loop μ-loop
-same-length-3 c = search needs
-
-same-length-4 : tie.Need-same-length-4 Inv-loop μ-loop
-same-length-4 c = search needs
 
 returns-2 : tie.Need-returns-2 Inv-loop μ-loop
 returns-2 c =
@@ -117,24 +87,6 @@ returns-2 c =
 pub windows-spec : {M : Type 1} → statement M
 windows-spec =
     tie.close
-    (tie.spec
-    Inv-loop
-    μ-loop
-    loop-holds
-    pass-requires
-    enum-known-refusal
-    enum-known-c
-    seen-after-requires
-    verdict-of-requires
-    enum-known-next
-    sub-at-of
-    at-of-requires
-    seen-after-requires-2
-    loop-less
-    loop-again
-    same-length
-    same-length-2
-    returns
-    same-length-3
-    same-length-4
-    returns-2)
+    (tie.spec Inv-loop μ-loop loop-holds (λ c κs. search needs) (λ c. search needs) (λ c. search needs) seen-after-requires
+    verdict-of-requires (λ c. search needs) (λ c. search needs) (λ c κs. search needs) seen-after-requires-2 loop-less loop-again
+    (λ c. search needs) (λ c. search needs) returns (λ c. search needs) (λ c. search needs) returns-2)

@@ -1,42 +1,70 @@
--- `scan::class_of` meets its contract: at each return the tests that led there, in the order of `classOf`, say which case holds.
+-- `scan::class_of` meets its contract: at each return the tests that led there say which case of `classOf` holds.
+use Prim.Native.Nat.{ℕ, _≤_}
 use mathlib.Core.Path.{_≡_, sym, _∙_}
-use mathlib.Core.Bool.{false, cond, _||_}
+use mathlib.Core.Bool.{true, false}
 use borrow.Author.Needs.{needs}
-use borrow.Author.Tests.{eq-eqb, ne-eqb}
-use lib.Dec.{eqb}
-use Rattle.lexer.specs.declared.scan.Class.the-variants.{SemiColon, NewLine, Quote, Hash, Other}
-use Rattle.lexer.specs.Bytes.{isLetter, isSpace, isDigit, isNewline, classOf}
+use borrow.Author.Tests.{leb-true, le-leb, lt-leb, ne-eqb}
+use native.Mathlib.Omega.{arith}
+use lib.Dec.{leb}
+use Rattle.lexer.specs.declared.scan.Class.the-variants.{Digit, Other}
+use Rattle.lexer.specs.Bytes.{isLetter, isDigit, classOf}
+use Rattle.lexer.proofs.Runs.{both}
 use Rattle.lexer.proofs.scan.class_of.Statement.{statement}
 use Rattle.lexer.proofs.scan.class_of.Tie as tie
 
-no-letter : (c : tie.Else1) → isLetter (c .before .before .args .b) ≡ false
-no-letter c = sym (c .before .is-letter .ensures) ∙ c .if1 .left
-
-no-space : (c : tie.Else2) → isSpace (c .before .before .before .before .args .b) ≡ false
-no-space c = sym (c .before .is-space .ensures) ∙ c .if2 .left
-
-no-digit : (c : tie.Else3)
-    → isDigit (c .before .before .before .before .before .before .args .b) || eqb (c .before .before .before .before .before .before .args .b) 45 ≡ false
-no-digit c = rw (← c .before .is-digit .ensures) (c .if3 .left)
-
--- past letters, spaces and digits the class is that of the signs
-sign : (c : tie.Else3) → let b = c .before .before .before .before .before .before .args .b in
-    classOf b ≡ cond (eqb b 59) SemiColon (cond (isNewline b) NewLine (cond (eqb b 34) Quote (cond (eqb b 35) Hash Other)))
+-- a digit is no letter and no space
+digits : (b : ℕ) → isDigit b ≡ true → Digit ≡ classOf b
 unfolding classOf
-sign c = rw (no-letter (c .before .before .before .before), no-space (c .before .before), no-digit c)
+digits b h =
+    let low : 48 ≤ b = leb-true 48 b (both (leb 48 b) (leb b 57) h .0) in
+    let high : b ≤ 57 = leb-true b 57 (both (leb 48 b) (leb b 57) h .1) in
+    simp (
+      lt-leb 97 b (omega arith),
+      lt-leb 65 b (omega arith),
+      ne-eqb b 32 (λ e. omega arith),
+      ne-eqb b 9 (λ e. omega arith),
+      le-leb 11 b (omega arith),
+      lt-leb b 13 (omega arith),
+      le-leb 48 b low,
+      le-leb b 57 high,
+    )
+
+no-digit : (c : tie.Else2) → isDigit (c .before .before .before .args .b) ≡ false
+no-digit c = sym (c .before .is-digit .ensures) ∙ c .if2 .left
+
+no-letter : (c : tie.Else3) → isLetter (c .before .before .before .before .before .args .b) ≡ false
+no-letter c = sym (c .before .is-letter .ensures) ∙ c .if3 .left
+
+-- past all tests
+others : (c : tie.Else9) → Other ≡ classOf (c .before .before .before .before .before .before .before .before .before .before .before .before .args .b)
+unfolding classOf
+others c =
+    let p = c .before .before .before in
+    let d = p .before .before .before .before in
+    rw (
+      no-letter d,
+      ← p .is-space .ensures,
+      c .before .before .if7 .left,
+      no-digit (d .before .before),
+      ne-eqb _ _ (p .before .before .if5 .left),
+      ne-eqb _ _ (p .before .before .before .if4 .left),
+      ne-eqb _ _ (p .before .if6 .left),
+      ne-eqb _ _ (c .before .if8 .left),
+      ne-eqb _ _ (c .if9 .left),
+    )
 
 pub class-of-spec : {M : Type 1} → statement M
 unfolding classOf
 class-of-spec =
     tie.close
     (tie.spec (λ c κs. search needs) (λ c κs. search needs) (λ c κs. search needs)
-    (λ c. rw (← c .before .is-letter .ensures, c .if1 .taken))
-    (λ c. rw (no-letter (c .before .before), ← c .before .is-space .ensures, c .if2 .taken))
-    (λ c. let d = c .before .before in rw (no-letter (d .before .before), no-space d, ← c .before .is-digit .ensures, c .if3 .taken))
-    (λ c. rw (sign (c .before), eq-eqb _ _ (c .if4 .taken)))
-    (λ c. rw (sign (c .before .before), ne-eqb _ _ (c .before .if4 .left), eq-eqb _ _ (c .if5 .taken)))
-    (λ c. rw (sign (c .before .before .before), ne-eqb _ _ (c .before .before .if4 .left), ne-eqb _ _ (c .before .if5 .left), eq-eqb _ _ (c .if6 .taken)))
-    (λ c. let d = c .before .before .before in
-    rw (sign (d .before), ne-eqb _ _ (d .if4 .left), ne-eqb _ _ (c .before .before .if5 .left), ne-eqb _ _ (c .before .if6 .left), eq-eqb _ _ (c .if7 .taken)))
-    (λ c. let d = c .before .before .before in
-    rw (sign (d .before), ne-eqb _ _ (d .if4 .left), ne-eqb _ _ (c .before .before .if5 .left), ne-eqb _ _ (c .before .if6 .left), ne-eqb _ _ (c .if7 .left))))
+    (λ c. rw (c .if1 .taken))
+    (λ c. digits (c .before .before .before .args .b) (sym (c .before .is-digit .ensures) ∙ c .if2 .taken))
+    (λ c. rw (← c .before .is-letter .ensures, c .if3 .taken))
+    (λ c. rw (c .if4 .taken))
+    (λ c. rw (c .if5 .taken))
+    (λ c. rw (c .if6 .taken))
+    (λ c. rw (no-letter (c .before .before .before .before .before), ← c .before .is-space .ensures, c .if7 .taken))
+    (λ c. rw (c .if8 .taken))
+    (λ c. rw (c .if9 .taken))
+    (λ c. others c))
