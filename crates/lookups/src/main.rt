@@ -57,7 +57,7 @@ fn force(part: &[u8]) {
     }
 }
 
-fn five(refusal: u8, place: usize, line: usize, found: u64, index: usize) {
+fn five(refusal: usize, place: usize, line: usize, found: u64, index: usize) {
     say::number(refusal as u64);
     say::number(place as u64);
     say::number(line as u64);
@@ -108,7 +108,7 @@ fn one_chain(file: &[u8], index: usize) {
     }
 }
 
-fn four(refusal: u8, place: usize, line: usize, count: usize) {
+fn four(refusal: usize, place: usize, line: usize, count: usize) {
     say::number(refusal as u64);
     say::number(place as u64);
     say::number(line as u64);
