@@ -31,7 +31,7 @@ const STRETCH_BYTES: usize = 2304;
 
 // Reads the text from the state on, a stretch of records at a time, and compares each stretch with what the file has in its place.
 // After the first that differs the rest is read only for a refusal.
-pub fn in_order(text: &[u8], start: State, file: &[u8]) -> Ordered
+pub(crate) fn in_order(text: &[u8], start: State, file: &[u8]) -> Ordered
     ensures { λ r. ⌜ Orders (now (text .entry)) start (now (file .entry)) r ⌝ }
 {
     let mut w = [0u8; STRETCH_BYTES];

@@ -81,7 +81,7 @@ const WIDTH_BYTES: usize = 589824;
 const LAST: usize = 4294967295;
 
 // The verdict on a file by windows: `w` is filled with a stretch of the reading at a time, and the file is scanned once for each.
-pub fn by_windows(text: &[u8], start: State, file: &[u8]) -> Refusal
+pub(crate) fn by_windows(text: &[u8], start: State, file: &[u8]) -> Refusal
     requires { ⌜ ((rs : List Record) × Reads (now text) start rs) ⌝ }
     ensures { λ v. ⌜ ((rs : List Record) → readFrom (now (text .entry)) start ≡ records rs → v ≡ verdict rs (held (now (file .entry)))) ⌝ }
 {
