@@ -53,7 +53,7 @@ pub struct State {
 
 impl State {
     // The library, before any statement: version 5.8 holds.
-    pub fn start(held: Token) -> Self
+    pub(crate) fn start(held: Token) -> Self
         ensures { λ r. ⌜ (r .held ≡ held) × ((s : List ℕ) → stateOf s r ≡ start) ⌝ }
     {
         Self {
@@ -78,7 +78,7 @@ impl State {
     }
 
     // The same but for the innermost block and the token held.
-    pub fn moved(self, block: Block, held: Token) -> Self
+    pub(crate) fn moved(self, block: Block, held: Token) -> Self
         ensures { λ r. ⌜ r ≡ movedTo block held self ⌝ }
     {
         Self {
@@ -103,7 +103,7 @@ impl State {
     }
 
     // The block around the innermost.
-    pub fn outer_block(self) -> Block
+    pub(crate) fn outer_block(self) -> Block
         ensures { λ r. ⌜ r ≡ firstOf (around self (self .block)) ⌝ }
     {
         let block = self.block;
@@ -131,7 +131,7 @@ impl State {
     }
 
     // The state as the innermost block ends.
-    pub fn left(self, next: Token) -> Self
+    pub(crate) fn left(self, next: Token) -> Self
         ensures { λ r. ⌜ r ≡ movedTo (firstOf (around self (self .block))) next self ⌝ }
     {
         self.moved(self.outer_block(), next)
@@ -149,7 +149,7 @@ impl State {
     }
 
     // Whether the innermost block is a port, obstructions, or in one.
-    pub fn is_within(self) -> bool
+    pub(crate) fn is_within(self) -> bool
         ensures { λ r. ⌜ r ≡ within (self .block) ⌝ }
     {
         let block = self.block;
@@ -165,7 +165,7 @@ impl State {
     }
 
     // Whether no block is open but the library.
-    pub fn is_library(self) -> bool
+    pub(crate) fn is_library(self) -> bool
         ensures { λ r. ⌜ r ≡ eqb (numberOf (self .block)) 0 ⌝ }
     {
         let block = self.block;
