@@ -36,7 +36,7 @@ use Rattle.grammar.proofs.Codes.{pairs, Coded, goes, keyed-seconds, val
 nought : Stored 0
 nought = record { negative = false; magnitude = 0; within = (omega arith, λ z. refl); is = refl }
 
-number-stored : {A M : Type 0} (a : Ahead A M) → Holds Stored (parse-number a)
+pub number-stored : {A M : Type 0} (a : Ahead A M) → Holds Stored (parse-number a)
 unfolding parse-number
 number-stored {A} {M} a = holds-after Stored (expect Kind.number a) _ (λ t b. go b (numeralOf (t .bytes)) (good (t .bytes)))
   where
@@ -80,7 +80,7 @@ after k s (among vs) = s
 after k s (whole n) = s
 
 -- how many items may be passed over after an item
-unfoldable skip : Item → ℕ
+unfoldable pub skip : Item → ℕ
 skip (key w) = 0
 skip (keyword w) = 0
 skip name = 0
@@ -117,7 +117,7 @@ all-fit : (b : Block) → fit-body fit (body b) ≡ true
 unfolding fit-body fit-rows fit-act all-numbered numbered eager takes fit settles skip after closed valuable pairs keyed-seconds goes listed kindCodes allows keys values words raised upper same firstWhere wordOf onOff siteClasses symmetries macroClasses directions uses shapes antennaModels antennaKeys portClasses layerOptions valuesOf placeOf codeOf goesOn
 all-fit = at-block (fit-body fit) refl
 
-passed-either : {A M : Type 0} (i : Item) (a : Ahead A M) (Q : ℕ → Type 0) → Q 0 → Q (skip i) → Q (passed i a)
+pub passed-either : {A M : Type 0} (i : Item) (a : Ahead A M) (Q : ℕ → Type 0) → Q 0 → Q (skip i) → Q (passed i a)
 unfolding skip
 passed-either (key w) a Q p q = p
 passed-either (keyword w) a Q p q = p

@@ -22,6 +22,10 @@ noToken = 3
 abbrev pub recordRoom : ℕ
 recordRoom = 11
 
+-- the text buffer is too small; place: the bytes needed
+abbrev pub textRoom : ℕ
+textRoom = 12
+
 -- the record bytes are not a multiple of 36; place: their length
 abbrev pub notWhole : ℕ
 notWhole = 13

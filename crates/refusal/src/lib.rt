@@ -1,7 +1,7 @@
 // What every call says when it cannot use what it was given: a number, a place and a line, as the table
 // "Numbers that come back" of the rules has them.
 ghost use mathlib.Core.Path.{_≡_};
-ghost use Rattle.refusal.specs.Table.{refused, done, tooLong, notAscii, noToken, recordRoom, notWhole, wrongRecord, lacking};
+ghost use Rattle.refusal.specs.Table.{refused, done, tooLong, notAscii, noToken, recordRoom, textRoom, notWhole, wrongRecord, lacking};
 
 // The number has a whole word, so that a token and a refusal lie alike in an answer that is the one or the other.
 pub struct Refusal {
@@ -20,6 +20,8 @@ impl Refusal {
     pub const NO_TOKEN: usize = 3;
 
     pub const RECORD_ROOM: usize = 11;
+
+    pub const TEXT_ROOM: usize = 12;
 
     pub const NOT_WHOLE: usize = 13;
 
@@ -78,6 +80,17 @@ impl Refusal {
         Self {
             number: Self::RECORD_ROOM,
             place: needed,
+            line: 0,
+        }
+    }
+
+    // The text buffer has room for fewer bytes than are needed.
+    pub fn text_room(bytes: usize) -> Self
+        ensures { λ r. ⌜ r ≡ refused textRoom bytes 0 ⌝ }
+    {
+        Self {
+            number: Self::TEXT_ROOM,
+            place: bytes,
             line: 0,
         }
     }

@@ -2,3 +2,4 @@ pub mod Words
 pub mod Lookup
 pub mod Codes
 pub mod Examples
+pub mod Spelling

@@ -1,0 +1,10 @@
+pub mod Pieces
+pub mod Spelt
+pub mod Stripped
+pub mod Plain
+pub mod Says
+pub mod Forms
+pub mod Lines
+pub mod Fit
+pub mod Written
+pub mod Examples
