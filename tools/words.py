@@ -1,6 +1,6 @@
 #!/usr/bin/env python3
 """words.py: writes what follows from the word lists of crates/word/specs/Words.antt: the stems and keys of specs/Lookup.antt,
-the numbers of src/names.rt, the arms of src/nodes.rt and the answers to them in proofs/nodes/next/Proof.antt.
+the numbers of src/names.rt, the arms of src/nodes.rt and src/spelling.rt, and the answers to them in proofs/nodes and proofs/spelling.
 Run at the repository's root after a change of those lists, then `rt fmt`. The proofs, and not this script, say that the tables are right."""
 import re
 
@@ -9,6 +9,8 @@ LOOKUP = "crates/word/specs/Lookup.antt"
 NAMES = "crates/word/src/names.rt"
 NODES = "crates/word/src/nodes.rt"
 PROOF = "crates/word/proofs/nodes/next/Proof.antt"
+SPELLING = "crates/word/src/spelling.rt"
+SPELT = "crates/word/proofs/spelling/%s/Proof.antt"
 
 
 def listed(name):
@@ -66,3 +68,20 @@ with open(NAMES, "w") as f:
 replaced(NODES, "    match key {\n", "        _ => 0,", "".join("        0x%x => %d,\n" % (key(w), k) for k, w in enumerate(nodes, 1)))
 arms = ["(λ c. at-key _ (c .match .keys%d) refl)" % k for k in range(1, len(nodes) + 1)]
 replaced(PROOF, "    (tie.spec\n", "\n    (λ c. nowhere", rows(arms, 160))
+
+
+def spelt(name, form, numbers):
+    """The arms of a function of src/spelling.rt, where it has a number for a word, and the answers to them."""
+    text = open(SPELLING).read()
+    start = text[text.index("fn %s(k: u8)" % name):]
+    start = start[: start.index("match k {\n")] + "match k {\n"
+    arms = [(k, form % n) for k, n in enumerate(numbers, 1) if n]
+    replaced(SPELLING, start, "        _ => 0,", "".join("        %d => %s,\n" % arm for arm in arms))
+    replaced(SPELT % name, "\nlisted =\n", "\n\n", rows(["%d ∷" % k for k, _ in arms] + ["[]"], 140))
+    answers = ["(λ c. at-word what _ (c .match .keys%d) refl)" % i for i in range(1, len(arms) + 1)]
+    replaced(SPELT % name, "    (tie.spec\n", "\n    (λ c. no-word", rows(answers, 140))
+
+
+spelt("count", "%d", [len(w) for w in words])
+for part, name in enumerate(["first", "second", "third", "fourth"]):
+    spelt(name, "0x%x", [int.from_bytes(w[8 * part:8 * part + 8].encode(), "little") for w in words])

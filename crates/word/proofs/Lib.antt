@@ -6,3 +6,4 @@ pub mod Trie
 pub mod Lead
 pub mod Turn
 pub mod Values
+pub mod Spelt

@@ -1,8 +1,8 @@
--- The place of a value in a list: one step over two numbers, and the end.
+-- The place of a value in a list: one step over two numbers, and the end; and the lists of the kinds.
 use Prim.Native.Nat.{ℕ, suc, _+_, _≤_, _<_}
 use mathlib.Core.Path.{_≡_, ap, _∙_}
 use mathlib.Core.Bool.{true, false, _&&_}
-use mathlib.Core.List.{List, _∷_}
+use mathlib.Core.List.{List, [], _∷_}
 use native.Mathlib.Numerals.{add-one, add-two}
 use native.Mathlib.Decide.{decLt}
 use native.Mathlib.Omega.{arith}
@@ -12,6 +12,7 @@ use lib.ListN.{length, drop, getD, drop-of-length-le}
 use lib.Seq.{drop-cons}
 use Rattle.record.specs.Kinds.{NAMESCASESENSITIVE, NOWIREEXTENSIONATPIN, SITE-CLASS, SYMMETRY-WORD, MACRO-CLASS, DIRECTION, USE, SHAPE, ANTENNAMODEL, ANTENNA, PORT-CLASS, LAYER-OPTION}
 use Rattle.word.specs.Codes.{placeOf, valuesOf, codeOf}
+use Rattle.word.proofs.Steps.{Nested, apart}
 
 module _ (n : ℕ) (l : List ℕ) (i first second : ℕ) where
   pairs : i + 1 < length l → drop i l ≡ getD l i 0 ∷ getD l (i + 1) 0 ∷ drop (i + 2) l
@@ -38,26 +39,39 @@ pub at-kind : {kind : ℕ} (k first second : ℕ) {l : List ℕ} {r : ℕ} → k
 unfolding codeOf
 at-kind k first second e q h = h ∙ rw (e, q)
 
--- a kind that has no list has no code
-pub no-kind : (kind first second : ℕ)
-    → (kind ≡ NAMESCASESENSITIVE → ⊥) → (kind ≡ NOWIREEXTENSIONATPIN → ⊥) → (kind ≡ SITE-CLASS → ⊥)
-    → (kind ≡ SYMMETRY-WORD → ⊥) → (kind ≡ MACRO-CLASS → ⊥) → (kind ≡ DIRECTION → ⊥)
-    → (kind ≡ USE → ⊥) → (kind ≡ SHAPE → ⊥) → (kind ≡ ANTENNAMODEL → ⊥)
-    → (kind ≡ ANTENNA → ⊥) → (kind ≡ PORT-CLASS → ⊥) → (kind ≡ LAYER-OPTION → ⊥)
-    → 0 ≡ codeOf kind first second
-unfolding valuesOf placeOf codeOf
-no-kind kind first second n4 n5 n9 n11 n14 n19 n20 n21 n22 n23 n25 n28 =
+-- an entry of the list of the kind
+pub at-list : {kind : ℕ} (k i : ℕ) {l : List ℕ} {r : ℕ} → kind ≡ k → valuesOf k ≡ l → r ≡ getD l i 0 → r ≡ getD (valuesOf kind) i 0
+at-list k i e q h = h ∙ rw (e, q)
+
+-- the kinds that have a list
+abbrev kinds : List ℕ
+kinds =
+    NAMESCASESENSITIVE ∷ NOWIREEXTENSIONATPIN ∷ SITE-CLASS ∷ SYMMETRY-WORD ∷ MACRO-CLASS ∷ DIRECTION
+    ∷ USE ∷ SHAPE ∷ ANTENNAMODEL ∷ ANTENNA ∷ PORT-CLASS ∷ LAYER-OPTION ∷ []
+
+-- a kind that has no list has no code and no entry
+no-list : (kind : ℕ) → Nested kind kinds (Unit {0}) → valuesOf kind ≡ []
+unfolding valuesOf
+no-list kind h =
+    let a = apart kind kinds (Unit {0}) h .1 in
     rw (
-      ne-eqb _ _ n4,
-      ne-eqb _ _ n5,
-      ne-eqb _ _ n9,
-      ne-eqb _ _ n11,
-      ne-eqb _ _ n14,
-      ne-eqb _ _ n19,
-      ne-eqb _ _ n20,
-      ne-eqb _ _ n21,
-      ne-eqb _ _ n22,
-      ne-eqb _ _ n23,
-      ne-eqb _ _ n25,
-      ne-eqb _ _ n28,
+      ne-eqb _ _ (a .0),
+      ne-eqb _ _ (a .1 .0),
+      ne-eqb _ _ (a .1 .1 .0),
+      ne-eqb _ _ (a .1 .1 .1 .0),
+      ne-eqb _ _ (a .1 .1 .1 .1 .0),
+      ne-eqb _ _ (a .1 .1 .1 .1 .1 .0),
+      ne-eqb _ _ (a .1 .1 .1 .1 .1 .1 .0),
+      ne-eqb _ _ (a .1 .1 .1 .1 .1 .1 .1 .0),
+      ne-eqb _ _ (a .1 .1 .1 .1 .1 .1 .1 .1 .0),
+      ne-eqb _ _ (a .1 .1 .1 .1 .1 .1 .1 .1 .1 .0),
+      ne-eqb _ _ (a .1 .1 .1 .1 .1 .1 .1 .1 .1 .1 .0),
+      ne-eqb _ _ (a .1 .1 .1 .1 .1 .1 .1 .1 .1 .1 .1 .0),
     )
+
+pub no-kind : (kind first second : ℕ) → Nested kind kinds (Unit {0}) → 0 ≡ codeOf kind first second
+unfolding placeOf codeOf
+no-kind kind first second h = rw (no-list kind h)
+
+pub no-entry : (kind i : ℕ) → Nested kind kinds (Unit {0}) → 0 ≡ getD (valuesOf kind) i 0
+no-entry kind i h = rw (no-list kind h)

@@ -10,6 +10,7 @@ ghost use Rattle.word.specs.Lookup.{marked};
 pub mod codes;
 pub mod names;
 mod nodes;
+pub mod spelling;
 
 // The number of the word that the bytes spell, in upper or lower case, or 0. Most words are one stretch long, and those are
 // looked up without a loop.

@@ -36,5 +36,4 @@ code-of-spec =
     (λ c. at-kind 23 _ _ (c .before .before .match .keys10) refl (c .place10 .ensures))
     (λ c. at-kind 25 _ _ (c .before .before .match .keys11) refl (c .place11 .ensures))
     (λ c. at-kind 28 _ _ (c .before .before .match .keys12) refl (c .place12 .ensures))
-    (λ c. let r = c .match .rest in
-    no-kind _ _ _ (r .0 .0 .0 .0 .0 .0 .0 .0 .0 .0 .0 .1) (r .0 .0 .0 .0 .0 .0 .0 .0 .0 .0 .1) (r .0 .0 .0 .0 .0 .0 .0 .0 .0 .1) (r .0 .0 .0 .0 .0 .0 .0 .0 .1) (r .0 .0 .0 .0 .0 .0 .0 .1) (r .0 .0 .0 .0 .0 .0 .1) (r .0 .0 .0 .0 .0 .1) (r .0 .0 .0 .0 .1) (r .0 .0 .0 .1) (r .0 .0 .1) (r .0 .1) (r .1)))
+    (λ c. no-kind _ _ _ (c .match .rest)))
