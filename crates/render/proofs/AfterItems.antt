@@ -1,12 +1,12 @@
 -- What is written after a statement may follow it: where its items forbid a name, it opens a block that lacks points, and the first of
 -- them begins with a number.
 use Prim.Native.Nat.{ℕ}
-use mathlib.Core.Path.{_≡_, refl, sym}
+use mathlib.Core.Path.{_≡_, refl}
 use mathlib.Core.Bool.{Bool, true, false, cond, not, _&&_, _||_, false≢true}
 use mathlib.Core.List.{List, [], _∷_, _++_}
 use lib.ListN.{length}
-use Rattle.lexer.specs.Kinds as Kind
 use Rattle.record.specs.Kinds.{POINT}
+use Rattle.lexer.specs.Kinds as Kind
 use Rattle.word.proofs.Words.{both}
 use Rattle.grammar.specs.Grammar.{Block, Library, Units, Site, Symmetry, Macro, Pin, Port, Obs, Options, Layer, Rect, Polygon, Path, Item, x, y, Move, stay, enter, named, version}
 use Rattle.grammar.specs.Table.{body}
@@ -18,12 +18,13 @@ use Rattle.render.specs.Spelt.{all}
 use Rattle.render.specs.Stripped.{finish}
 use Rattle.render.specs.Plain.{Plain}
 use Rattle.render.specs.Says.{says, saysAll}
-use Rattle.render.specs.Forms.{Form, form, formsOf, rowForms, formsIn, isOf, formFor, begins, saidIn}
+use Rattle.render.specs.Forms.{Form, form, formsOf, rowForms, formsIn, begins, saidIn}
 use Rattle.render.specs.Lines.{owns, formIn, closing, takenBy, taking, before, statement, entered, pieces, after, lines}
 use Rattle.render.specs.Fit.{takes, admits, allEnd, fitFrom}
+use Rattle.render.proofs.Tested.{or-right}
+use Rattle.render.proofs.Forms.{form-passes, form-only}
 use Rattle.render.proofs.Stands.{endsNoName, follows}
-use Rattle.render.proofs.LineTokens.{tokens-then, tokens-statement, lines-sound, follows-more}
-use Rattle.render.proofs.NextWord.{some-not-none, form-passes}
+use Rattle.render.proofs.LineTokens.{tokens-then, tokens-statement, lines-lexable, follows-more}
 
 -- a number comes first
 abbrev Numbered : List Said → Type 0
@@ -32,11 +33,7 @@ Numbered (u ∷ us) = u .kind ≡ Kind.number
 
 numbered-follows : (is : List Item) (us : List Said) → Numbered us → follows is us ≡ true
 numbered-follows is [] h = absurd h
-numbered-follows is (u ∷ us) h = rw h (go (endsNoName is))
-  where
-    go : (c : Bool) → (not c || true) ≡ true
-    go true = refl
-    go false = refl
+numbered-follows is (u ∷ us) h = rw h (or-right (not (endsNoName is)) refl)
 
 -- A RECT THAT LACKS POINTS
 
@@ -49,12 +46,8 @@ module _ (v p : ℕ) (l : List ℕ) (k : ℕ) (ks : List ℕ) (fs : List (Frame 
   rect = opened Rect p l (k ∷ ks)
 
   point-form : (r : Plain) (m : Form) → formIn rect r ≡ some m → m ≡ point
-  unfolding formFor formsIn
-  point-form r m e = go (isOf r point) e
-    where
-      go : (c : Bool) → cond c (some point) none ≡ some m → m ≡ point
-      go true e = cc
-      go false e = absurd (some-not-none (sym e))
+  unfolding formsIn
+  point-form r m e = form-only r point m e
 
   numbered-point : (r : Plain) (us : List Said) → Numbered (saidIn l point r ++ us)
   unfolding saidIn begins saysAll says
@@ -150,7 +143,7 @@ module _ (v : ℕ) (f : Frame ℕ) (fs : List (Frame ℕ)) (r : Plain) (rs : Lis
   items-follow m e t =
       let ts = tokens (lines (entered v f fs r (some m)) rs) in
       by-end (ts ++ (finish ∷ [])) (endsNoName (m .items)) refl (form-passes barsByRect r (formsIn (body (f .block))) m (all-bar (f .block)) e)
-      (follows-more ts (finish ∷ []) (lines-sound (entered v f fs r (some m)) rs) refl)
+      (follows-more ts (finish ∷ []) (lines-lexable (entered v f fs r (some m)) rs) refl)
       (λ h. barred (m .move) h (finish ∷ []) t)
     where
       by-end : (us : List Said) (c : Bool) → endsNoName (m .items) ≡ c → (not c || opensRect (m .move)) ≡ true

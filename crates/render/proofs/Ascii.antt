@@ -11,11 +11,12 @@ use Rattle.lexer.specs.declared.Screened.the-variants.{Clear}
 use Rattle.lexer.specs.Bytes.{isAscii}
 use Rattle.lexer.specs.Run.{run}
 use Rattle.lexer.specs.Screen.{limit, screened}
-use Rattle.lexer.proofs.Runs.{both}
 use Rattle.lexer.proofs.Cleared as Cleared
+use Rattle.word.proofs.Words.{both}
 use Rattle.render.specs.Pieces.{Said, Piece, spaces, newline, token, text, tokens}
 use Rattle.render.specs.Spelt.{all, isToken, isSpelt, allSpelt}
-use Rattle.render.proofs.Bytes.{all-append, run-over}
+use Rattle.render.proofs.All.{all-append}
+use Rattle.render.proofs.Bytes.{run-over}
 
 spelt-ascii : (t : Said) → isSpelt t ≡ true → all isAscii (t .bytes) ≡ true
 unfolding isSpelt

@@ -29,6 +29,7 @@ use Rattle.grammar.proofs.Turned.{Reads}
 use Rattle.grammar.proofs.Rises.{Owned, owned, AllNamed, all-named}
 use Rattle.grammar.proofs.Places.{places-within}
 use Rattle.render.specs.Plain.{ownerOf, bare}
+use Rattle.render.proofs.Every.{every-member}
 use Rattle.render.proofs.Stands.{plainRec}
 
 -- A READING, AS WHAT THE TURNS READ
@@ -122,10 +123,6 @@ Kept o = ownerOf (ownerAt o) ≡ o
 low-kept : (p : ℕ) → p < library → Kept (some p)
 low-kept p h = rw (ne-eqb p library (λ e. omega arith))
 
-member-kept : (o : Maybe ℕ) (known : List (Maybe ℕ)) → Every Kept known → List·Memᴰ o known → Kept o
-member-kept o [] h m = absurd (List·Memᴰ·not-nil m)
-member-kept o (p ∷ known) h m = ⊎-elim (λ e. rw e (h .0)) (member-kept o known (h .1)) (List·Memᴰ·cases-cons m)
-
 -- RECORDS
 
 module _ (s : List ℕ) (ts : List (Tok ℕ Mark)) (h : (t : Tok ℕ Mark) → List·Memᴰ t ts → Lies s t) (short : length s ≤ library) where
@@ -133,7 +130,7 @@ module _ (s : List ℕ) (ts : List (Tok ℕ Mark)) (h : (t : Tok ℕ Mark) → L
       → map (bare s) (map filed qs) ≡ map plainRec qs
   all-bared known [] k w o n = refl
   all-bared known (q ∷ qs) k w o n =
-      rw (member-kept (q .owner) known k (o .0), names-lie s ts h (q .name) (n .0))
+      rw (every-member Kept (o .0) k, names-lie s ts h (q .name) (n .0))
       (ap (λ l. plainRec q ∷ l) (all-bared (some (q .at) ∷ known) qs (low-kept (q .at) (omega (arith, w .0)), k) (w .1) (o .1) (n .1)))
 
 -- THE RECORDS OF A READING ARE THOSE THAT THE TURNS READ, with their places

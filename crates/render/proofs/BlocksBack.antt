@@ -4,29 +4,24 @@ use Prim.Native.Nat.{ℕ}
 use mathlib.Core.Path.{_≡_, refl, sym, ap, subst, _∙_}
 use mathlib.Core.Bool.{Bool, true, false, false≢true}
 use mathlib.Core.List.{List, [], _∷_, _++_}
-use Rattle.lexer.specs.Kinds as Kind
 use Rattle.word.specs.Words.{wordOf, isKey}
 use Rattle.grammar.specs.Tokens.{Ahead}
 use Rattle.grammar.specs.Grammar.{Body, keyed, worded, options, parts, counted}
 use Rattle.grammar.specs.Table.{body}
-use Rattle.grammar.specs.Engine.{Maybe, none, some, Rec, Frame}
-use Rattle.grammar.specs.Turns.{Step, ends, goes, backs, step, state, applied, leave, turn}
+use Rattle.grammar.specs.Engine.{Maybe, none, some, Frame}
+use Rattle.grammar.specs.Turns.{ends, state, turn}
 use Rattle.grammar.specs.Reading.{Mark}
-use Rattle.grammar.proofs.Falls.{readOn, after, unrolls, reads-moved, reads-done}
+use Rattle.grammar.proofs.Falls.{readOn}
 use Rattle.render.specs.Pieces.{Said, tokens}
 use Rattle.render.specs.Forms.{Close, closeOf, lastWords}
 use Rattle.render.specs.Lines.{spaced, settledBy, settled, settling}
 use Rattle.render.specs.Fit.{endsBefore, mayEnd}
 use Rattle.render.proofs.Stands.{standing, follows, isSome, hasLast, lastOf}
-use Rattle.render.proofs.LineTokens.{lastOf-sound, follows-more}
-use Rattle.render.proofs.NextWord.{isBackWord, back-key, before-word, Heads}
+use Rattle.render.proofs.Settled.{settled-keeps}
+use Rattle.render.proofs.LineTokens.{lastOf-lexable, follows-more}
 use Rattle.render.proofs.EndsBack.{last-back, options-back, before-back}
-
--- a turn in the innermost block
-pub turn-of : (v : ℕ) (f : Frame ℕ) (fs : List (Frame ℕ)) (a : Ahead ℕ Mark) (s : Step ℕ Mark (Rec ℕ)) → step v f a (body (f .block)) ≡ s
-    → turn body v (f ∷ fs) a ≡ applied v f fs (turn body v fs a) s
-unfolding turn
-turn-of v f fs a s e = ap (applied v f fs (turn body v fs a)) e
+use Rattle.render.proofs.Turns.{become-reads, around-reads, rest-reads}
+use Rattle.render.proofs.NextWord.{isBackWord, back-key, before-word, Heads}
 
 no-last : (label : List ℕ) (b : Body) → hasLast b ≡ false → lastOf label b ≡ []
 unfolding lastWords
@@ -43,23 +38,6 @@ no-last label b = go b
     go (parts k is) h = absurd (false≢true (sym h))
     go (counted k is) h = absurd (false≢true (sym h))
 
--- where a block was left, the reading goes on in those around it
-left-reads : (v : ℕ) (fs : List (Frame ℕ)) (b : Ahead ℕ Mark) → after readOn (leave v fs b) ≡ readOn (state v fs) b
-unfolding turn
-left-reads v [] b = sym (reads-done (state v []) b refl)
-left-reads v (f ∷ fs) b = refl
-
--- options over, the block has its name and its place
-pub settled-keeps : (f : Frame ℕ) → (settled f .label ≡ f .label) × (settled f .at ≡ f .at)
-settled-keeps f = go (body (f .block))
-  where
-    go : (b : Body) → (settledBy f b .label ≡ f .label) × (settledBy f b .at ≡ f .at)
-    go (keyed n rows) = (refl, refl)
-    go (worded rows) = (refl, refl)
-    go (options rows b) = (refl, refl)
-    go (parts k is) = (refl, refl)
-    go (counted k is) = (refl, refl)
-
 -- the line of options ends
 pub settle-back : (v : ℕ) (f : Frame ℕ) (fs : List (Frame ℕ)) (a : Ahead ℕ Mark) (us : List Said)
     → standing a ≡ tokens (settling (body (f .block))) ++ us → follows [] us ≡ true
@@ -73,7 +51,7 @@ settle-back v f fs a us e k = go (body (f .block)) refl e
     go (worded rows) q e = (a, refl, e)
     go (options rows b) q e =
         let (c, s, d) = options-back v f rows b a us q e k in
-        (c, reads-moved (state v (f ∷ fs)) a (turn-of v f fs a (goes b c) s), d)
+        (c, become-reads v f fs a c b s, d)
     go (parts l is) q e = (a, refl, e)
     go (counted l is) q e = (a, refl, e)
 
@@ -83,8 +61,7 @@ before-ends : (v w : ℕ) (f : Frame ℕ) (fs : List (Frame ℕ)) (a : Ahead ℕ
     → readOn (state v (f ∷ fs)) a ≡ readOn (state v fs) a
 before-ends v w f fs a n e h =
     let g : isKey (wordOf (a .held .bytes)) ≡ true = rw (h .1) (back-key w (before-word w f n e)) in
-    let t = turn-of v f fs a backs (before-back v f a n (h .0) g (rw (h .1) e)) in
-    unrolls (state v (f ∷ fs)) a ∙ ap (after readOn) t ∙ sym (unrolls (state v fs) a)
+    around-reads v f fs a (before-back v f a n (h .0) g (rw (h .1) e))
 
 -- a block ends by its last words
 last-ends : (v w : ℕ) (f : Frame ℕ) (fs : List (Frame ℕ)) (a : Ahead ℕ Mark) (us : List Said)
@@ -92,7 +69,7 @@ last-ends : (v w : ℕ) (f : Frame ℕ) (fs : List (Frame ℕ)) (a : Ahead ℕ M
     → (b : Ahead ℕ Mark) × (readOn (state v (f ∷ fs)) a ≡ readOn (state v fs) b) × (standing b ≡ us)
 last-ends v w f fs a us n e s k =
     let (b, t, d) = last-back v w f a us n e s k in
-    (b, unrolls (state v (f ∷ fs)) a ∙ ap (after readOn) (turn-of v f fs a (ends b) t) ∙ left-reads v fs b, d)
+    (b, rest-reads v f fs a b t, d)
 
 -- A BLOCK ENDS, with its options before if it has them
 pub closing-back : (v w : ℕ) (f : Frame ℕ) (fs : List (Frame ℕ)) (a : Ahead ℕ Mark) (us : List Said)
@@ -101,7 +78,7 @@ pub closing-back : (v w : ℕ) (f : Frame ℕ) (fs : List (Frame ℕ)) (a : Ahea
     → (b : Ahead ℕ Mark) × (readOn (state v (f ∷ fs)) a ≡ readOn (state v fs) b) × (standing b ≡ us)
 closing-back v w f fs a us m e k h =
     let l = lastOf (f .label) (body (settled f .block)) in
-    let (b, p, d) = settle-back v f fs a (l ++ us) e (follows-more l us (lastOf-sound (f .label) (body (settled f .block))) k) in
+    let (b, p, d) = settle-back v f fs a (l ++ us) e (follows-more l us (lastOf-lexable (f .label) (body (settled f .block))) k) in
     let (c, q, g) = go b d (hasLast (body (settled f .block))) refl in
     (c, p ∙ q, g)
   where

@@ -1,4 +1,4 @@
--- The laws of bytes that all satisfy a predicate, of the run that they make and of the class of a first byte: each by recursion or by its tests.
+-- The laws of the run that bytes make and of the class of a first byte: each by recursion or by its tests.
 use Prim.Native.Nat.{ℕ, zero, suc, _+_, _≤_, _<_}
 use mathlib.Core.Path.{_≡_, refl, ap}
 use mathlib.Core.Bool.{Bool, true, false, cond, _&&_, _||_}
@@ -7,31 +7,12 @@ use native.Mathlib.Nat.{zero-add}
 use native.Mathlib.Omega.{arith}
 use borrow.Author.Tests.{leb-true, eqb-true, le-leb, lt-leb, ne-eqb}
 use lib.Dec.{leb, eqb}
-use lib.ListN.{length, take, drop}
+use lib.ListN.{length, take}
 use Rattle.lexer.specs.declared.scan.Class.the-variants.{Letter, Digit}
 use Rattle.lexer.specs.Bytes.{classOf, isLetter, isDigit}
 use Rattle.lexer.specs.Run.{run}
-use Rattle.lexer.proofs.Runs.{both}
+use Rattle.word.proofs.Words.{both}
 use Rattle.render.specs.Spelt.{all}
-
--- ---- all
-module _ {B : Type 0} (p : B → Bool) where
-  pub all-append : (s t : List B) → all p s ≡ true → all p t ≡ true → all p (s ++ t) ≡ true
-  unfolding all
-  all-append [] t e f = f
-  all-append (b ∷ s) t e f = let (x, y) = both (p b) (all p s) e in rw x (all-append s t y f)
-
-  pub all-take : (n : ℕ) (s : List B) → all p s ≡ true → all p (take n s) ≡ true
-  unfolding all
-  all-take zero s e = refl
-  all-take (suc n) [] e = refl
-  all-take (suc n) (b ∷ s) e = let (x, y) = both (p b) (all p s) e in rw x (all-take n s y)
-
-  pub all-drop : (n : ℕ) (s : List B) → all p s ≡ true → all p (drop n s) ≡ true
-  unfolding all
-  all-drop zero s e = e
-  all-drop (suc n) [] e = refl
-  all-drop (suc n) (b ∷ s) e = all-drop n s (both (p b) (all p s) e .1)
 
 -- ---- runs
 module _ (p : ℕ → Bool) where

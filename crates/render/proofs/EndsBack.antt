@@ -19,10 +19,11 @@ use Rattle.render.specs.Says.{semicolon, says, omitted, saysAll, holds, 
 use Rattle.render.specs.Forms.{Close, closeOf, nobody, lastWords}
 use Rattle.render.specs.Fit.{isBack, closes, endsBefore}
 use Rattle.render.proofs.Stands.{standing, endsNoName, isSome, hasLast, lastOf, LastBack, OptionsBack, BeforeBack}
-use Rattle.render.proofs.Takers.{starts, held-kind, Back, back-then, take-back, expect-back}
-use Rattle.render.proofs.Sound.{sound, says-start}
+use Rattle.render.proofs.TakersBack.{starts, held-kind, Back, back-then, take-back, expect-back}
+use Rattle.render.proofs.LineTokens.{says-start}
+use Rattle.render.proofs.Legible.{legible}
 use Rattle.render.proofs.ItemsBack.{Same, items-back}
-use Rattle.render.proofs.Rows.{sound-act, sound-rows, sound-body, all-sound, closed}
+use Rattle.render.proofs.RowsBack.{legible-act, legible-rows, legible-body, all-legible, closed}
 use Rattle.render.proofs.StepsBack.{follows-start, keyed-row, judged-row}
 
 semi-held : (a : Ahead ℕ Mark) (us : List Said) → standing a ≡ semicolon ∷ us → matches Kind.semicolon a ≡ true
@@ -40,7 +41,7 @@ module _ (v : ℕ) (f : Frame ℕ) (a : Ahead ℕ Mark) (us : List Said) (g : st
   abbrev asked : List Item → Type 0
   asked is = holdsAll 0 (f .label) (f .lacks) is nobody ≡ true
 
-  read : (is : List Item) → sound 0 0 false false is ≡ true → endsNoName is ≡ false → asked is → (b : Ahead ℕ Mark) → standing b ≡ saysAll 0 (f .label) is nobody ++ us
+  read : (is : List Item) → legible 0 0 false false is ≡ true → endsNoName is ≡ false → asked is → (b : Ahead ℕ Mark) → standing b ≡ saysAll 0 (f .label) is nobody ++ us
       → Back (Read is) us (items 0 f is (blank 0 f a) b)
   read is s n h b z =
       items-back f nobody (a .held .at) (f .at) us g 0 is false false s (blank 0 f a) nobody
@@ -53,7 +54,7 @@ module _ (v : ℕ) (f : Frame ℕ) (a : Ahead ℕ Mark) (us : List Said) (g : st
 
   -- LAST WORDS
 
-  module _ (c : Close) (s : sound-act (close (c .items)) ≡ true) (h : asked (c .items)) where
+  module _ (c : Close) (s : legible-act (close (c .items)) ≡ true) (h : asked (c .items)) where
     abbrev rest : List Said
     rest = saysAll 0 (f .label) (c .items) nobody ++ us
 
@@ -61,35 +62,35 @@ module _ (v : ℕ) (f : Frame ℕ) (a : Ahead ℕ Mark) (us : List Said) (g : st
     rest-start = says-start (f .label) nobody us g 0 (c .items)
 
     performed : (P : Tok ℕ Mark → Type 0) (taken : Answer ℕ Mark (Tok ℕ Mark)) (p : Mark) → Back P rest taken → Ends (perform v f a taken p (close (c .items)))
-    unfolding perform sound-act
+    unfolding perform legible-act
     performed P taken p k =
-        let (o, n) = both (sound 0 0 false false (c .items)) (not (endsNoName (c .items))) s in
+        let (o, n) = both (legible 0 0 false false (c .items)) (not (endsNoName (c .items))) s in
         done (Read (c .items)) (then taken (λ t b. items 0 f (c .items) (blank 0 f a) b))
         (back-then P (Read (c .items)) rest us taken (λ t b. items 0 f (c .items) (blank 0 f a) b) k (λ t b e z. read (c .items) o (not-true _ n) h b z))
 
-  keyed-ends : (n : ℕ) (rows : List Row) (act : Act) → sound-rows true rows ≡ true → (c : Maybe Close) → closeOf rows ≡ c → isSome c ≡ true → closes f c act ≡ true
+  keyed-ends : (n : ℕ) (rows : List Row) (act : Act) → legible-rows true rows ≡ true → (c : Maybe Close) → closeOf rows ≡ c → isSome c ≡ true → closes f c act ≡ true
       → standing a ≡ lastWords (f .label) c ++ us → Ends (step v f a (keyed n rows))
   unfolding lastWords
   keyed-ends n rows act s none e i h z = absurd (false≢true i)
   keyed-ends n rows act s (some c) e i h z =
       let b = closed true rows c s e in
-      rw (keyed-row v f a true rows (c .word) (close (c .items)) b (rest c (b .sound) h) n refl z)
-      (performed c (b .sound) h (λ u. u ≡ a .held) (take a) (a .held .mark) (take-back a (said Kind.name (bytes (c .word))) (rest c (b .sound) h) z (rest-start c (b .sound) h)))
+      rw (keyed-row v f a true rows (c .word) (close (c .items)) b (rest c (b .legible) h) n refl z)
+      (performed c (b .legible) h (λ u. u ≡ a .held) (take a) (a .held .mark) (take-back a (said Kind.name (bytes (c .word))) (rest c (b .legible) h) z (rest-start c (b .legible) h)))
 
-  judged-ends : (rows : List Row) (act : Act) → sound-rows false rows ≡ true → (c : Maybe Close) → closeOf rows ≡ c → isSome c ≡ true → closes f c act ≡ true
+  judged-ends : (rows : List Row) (act : Act) → legible-rows false rows ≡ true → (c : Maybe Close) → closeOf rows ≡ c → isSome c ≡ true → closes f c act ≡ true
       → standing a ≡ lastWords (f .label) c ++ us → Ends (judged v f a rows (get-name a))
   unfolding lastWords
   judged-ends rows act s none e i h z = absurd (false≢true i)
   judged-ends rows act s (some c) e i h z =
       let b = closed false rows c s e in
-      let k = expect-back a (said Kind.name (bytes (c .word))) (rest c (b .sound) h) z (rest-start c (b .sound) h) Kind.name refl in
-      let (p, q) = judged-row v f a false rows (c .word) (close (c .items)) b (rest c (b .sound) h) (get-name a) k in
-      rw q (performed c (b .sound) h (λ u. u .bytes ≡ bytes (c .word)) (get-name a) p k)
+      let k = expect-back a (said Kind.name (bytes (c .word))) (rest c (b .legible) h) z (rest-start c (b .legible) h) Kind.name refl in
+      let (p, q) = judged-row v f a false rows (c .word) (close (c .items)) b (rest c (b .legible) h) (get-name a) k in
+      rw q (performed c (b .legible) h (λ u. u .bytes ≡ bytes (c .word)) (get-name a) p k)
 
   -- ANY BODY
 
-  body-ends : (w : ℕ) (b : Body) → sound-body b ≡ true → hasLast b ≡ true → endsBefore w f b ≡ true → standing a ≡ lastOf (f .label) b ++ us → Ends (step v f a b)
-  unfolding sound-body step sound endsNoName saysAll says omitted holdsAll holds
+  body-ends : (w : ℕ) (b : Body) → legible-body b ≡ true → hasLast b ≡ true → endsBefore w f b ≡ true → standing a ≡ lastOf (f .label) b ++ us → Ends (step v f a b)
+  unfolding legible-body step legible endsNoName saysAll says omitted holdsAll holds
   body-ends w (keyed n rows) s i h z = keyed-ends n rows (actFor n w rows) s (closeOf rows) refl i h z
   body-ends w (worded rows) s i h z = judged-ends rows (refuse 0) s (closeOf rows) refl i h z
   body-ends w (options rows c) s i h z = absurd (false≢true i)
@@ -106,7 +107,7 @@ module _ (v : ℕ) (f : Frame ℕ) (a : Ahead ℕ Mark) (us : List Said) (g : st
 
 -- LAST WORDS ARE READ AS THE END OF THEIR BLOCK
 pub last-back : LastBack
-last-back v w f a us i h z g = body-ends v f a us (follows-start [] us g) w (body (f .block)) (all-sound (f .block)) i h z
+last-back v w f a us i h z g = body-ends v f a us (follows-start [] us g) w (body (f .block)) (all-legible (f .block)) i h z
 
 -- A `;` AFTER OPTIONS IS READ AS THEIR END
 pub options-back : OptionsBack

@@ -87,7 +87,7 @@ others-stay g (among vs) e r d = refl
 others-stay g (whole n) e r d = refl
 
 -- an item is shown alike, gives alike and, in records of one kind, judges alike where its field is the same
-pub record Alike (label lacks : List ℕ) (r q d : Plain) (i : Item) : Type 0 where
+pub record Judged (label lacks : List ℕ) (r q d : Plain) (i : Item) : Type 0 where
   pub holds : r .kind ≡ q .kind → holds label lacks r i ≡ holds label lacks q i
   pub shows : shows r i ≡ shows q i
   pub gives : gives r i d ≡ gives q i d
@@ -96,7 +96,7 @@ one : {m n : ℕ} → m ∷ [] ≡ n ∷ [] → m ≡ n
 one e = cc
 
 module _ (label lacks : List ℕ) (r q d : Plain) where
-  pub alike : (i : Item) → part (asked i) r ≡ part (asked i) q → Alike label lacks r q d i
+  pub alike : (i : Item) → part (asked i) r ≡ part (asked i) q → Judged label lacks r q d i
   unfolding asked part holds shows gives
   alike (key w) e = record { holds = λ k. refl; shows = refl; gives = refl }
   alike (keyword w) e = record { holds = λ k. refl; shows = refl; gives = refl }

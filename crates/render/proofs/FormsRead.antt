@@ -13,57 +13,49 @@ use Rattle.render.specs.Spelt.{all}
 use Rattle.render.specs.Plain.{Plain}
 use Rattle.render.specs.Says.{holds, omitted, holdsAll, gives}
 use Rattle.render.specs.Forms.{Form, ofCode, isOf, formFor, nobody}
+use Rattle.render.proofs.All.{all-member}
 use Rattle.render.proofs.Fields.{part, asked, alike}
-use Rattle.render.proofs.Optional.{none-omitted}
+use Rattle.render.proofs.OmittedRead.{none-omitted}
 
 -- the code that items begin with: 0 where they begin with none
 unfoldable pub leading : List Item → ℕ
 leading [] = 0
 leading (i ∷ is) = gives nobody i nobody .code
 
+-- items begin with a code, or are those of every code
+by-code : (P : List Item → Type 0) → ((b : ℕ) (is : List Item) → P (code b ∷ is)) → ((is : List Item) → leading is ≡ 0 → ((c : ℕ) → ofCode is c ≡ true) → P is)
+    → (is : List Item) → P is
+unfolding leading gives ofCode
+by-code P p q [] = q [] refl (λ c. refl)
+by-code P p q (key w ∷ is) = q (key w ∷ is) refl (λ c. refl)
+by-code P p q (keyword w ∷ is) = q (keyword w ∷ is) refl (λ c. refl)
+by-code P p q (name ∷ is) = q (name ∷ is) refl (λ c. refl)
+by-code P p q (own ∷ is) = q (own ∷ is) refl (λ c. refl)
+by-code P p q (x ∷ is) = q (x ∷ is) refl (λ c. refl)
+by-code P p q (y ∷ is) = q (y ∷ is) refl (λ c. refl)
+by-code P p q (semi ∷ is) = q (semi ∷ is) refl (λ c. refl)
+by-code P p q (value ∷ is) = q (value ∷ is) refl (λ c. refl)
+by-code P p q (first ∷ is) = q (first ∷ is) refl (λ c. refl)
+by-code P p q (firstKey ∷ is) = q (firstKey ∷ is) refl (λ c. refl)
+by-code P p q (second ∷ is) = q (second ∷ is) refl (λ c. refl)
+by-code P p q (string n ∷ is) = q (string n ∷ is) refl (λ c. refl)
+by-code P p q (code b ∷ is) = p b is
+by-code P p q (ifMore n ∷ is) = q (ifMore n ∷ is) refl (λ c. refl)
+by-code P p q (noName ∷ is) = q (noName ∷ is) refl (λ c. refl)
+by-code P p q (among vs ∷ is) = q (among vs ∷ is) refl (λ c. refl)
+by-code P p q (whole n ∷ is) = q (whole n ∷ is) refl (λ c. refl)
+
 leads : (is : List Item) → eqb (leading is) 0 ≡ false → (c : ℕ) → ofCode is c ≡ eqb (leading is) c
 unfolding leading gives ofCode
-leads [] e c = clash e
-leads (key w ∷ is) e c = clash e
-leads (keyword w ∷ is) e c = clash e
-leads (name ∷ is) e c = clash e
-leads (own ∷ is) e c = clash e
-leads (x ∷ is) e c = clash e
-leads (y ∷ is) e c = clash e
-leads (semi ∷ is) e c = clash e
-leads (value ∷ is) e c = clash e
-leads (first ∷ is) e c = clash e
-leads (firstKey ∷ is) e c = clash e
-leads (second ∷ is) e c = clash e
-leads (string n ∷ is) e c = clash e
-leads (code b ∷ is) e c = refl
-leads (ifMore n ∷ is) e c = clash e
-leads (noName ∷ is) e c = clash e
-leads (among vs ∷ is) e c = clash e
-leads (whole n ∷ is) e c = clash e
+leads = by-code (λ is. eqb (leading is) 0 ≡ false → (c : ℕ) → ofCode is c ≡ eqb (leading is) c) (λ b is e c. refl)
+    (λ is z o e c. clash (sym (eq-eqb (leading is) 0 z) ∙ e))
 
-module _ (label lacks : List ℕ) (r : Plain) where
-  -- a record that has what the items ask has the code that they begin with
-  pub of-code : (is : List Item) → holdsAll 0 label lacks is r ≡ true → ofCode is (r .code) ≡ true
-  unfolding holdsAll holds ofCode
-  of-code [] h = refl
-  of-code (key w ∷ is) h = refl
-  of-code (keyword w ∷ is) h = refl
-  of-code (name ∷ is) h = refl
-  of-code (own ∷ is) h = refl
-  of-code (x ∷ is) h = refl
-  of-code (y ∷ is) h = refl
-  of-code (semi ∷ is) h = refl
-  of-code (value ∷ is) h = refl
-  of-code (first ∷ is) h = refl
-  of-code (firstKey ∷ is) h = refl
-  of-code (second ∷ is) h = refl
-  of-code (string n ∷ is) h = refl
-  of-code (code b ∷ is) h = eq-eqb b (r .code) (sym (eqb-true (r .code) b (both (eqb (r .code) b) (holdsAll (omitted r (code b) is) label lacks is r) h .0)))
-  of-code (ifMore n ∷ is) h = refl
-  of-code (noName ∷ is) h = refl
-  of-code (among vs ∷ is) h = refl
-  of-code (whole n ∷ is) h = refl
+-- a record that has what the items ask has the code that they begin with
+pub of-code : (label lacks : List ℕ) (r : Plain) (is : List Item) → holdsAll 0 label lacks is r ≡ true → ofCode is (r .code) ≡ true
+unfolding holdsAll holds ofCode
+of-code label lacks r = by-code (λ is. holdsAll 0 label lacks is r ≡ true → ofCode is (r .code) ≡ true)
+    (λ b is h. eq-eqb b (r .code) (sym (eqb-true (r .code) b (both (eqb (r .code) b) (holdsAll (omitted r (code b) is) label lacks is r) h .0))))
+    (λ is z o h. o (r .code))
 
 -- other kinds, or other codes at the beginning
 unfoldable pub differ : Form → Form → Bool
@@ -91,11 +83,6 @@ not-its r m n e o =
 unfoldable pub distinct : List Form → Bool
 distinct [] = true
 distinct (m ∷ ms) = all (differ m) ms && distinct ms
-
-pub all-member : {B : Type 0} (p : B → Bool) {b : B} {l : List B} → List·Memᴰ b l → all p l ≡ true → p b ≡ true
-unfolding all
-all-member p (List·Memᴰ·head {x = z} {xs = l} e) h = rw e (both (p z) (all p l) h .0)
-all-member p (List·Memᴰ·tail {x = z} {xs = l} m) h = all-member p m (both (p z) (all p l) h .1)
 
 pub its-form : (r : Plain) {m : Form} {ms : List Form} → List·Memᴰ m ms → distinct ms ≡ true → isOf r m ≡ true → formFor r ms ≡ some m
 unfolding distinct formFor

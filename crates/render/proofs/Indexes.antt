@@ -17,6 +17,7 @@ use Rattle.grammar.specs.Standing.{Every, Rising, placesOf, OwnedFrom}
 use Rattle.grammar.proofs.Places.{places-rise, owners-known}
 use Rattle.render.specs.Plain.{ownerOf, bare, renamedOwner, renamed, indexIn, aside}
 use Rattle.render.specs.Fit.{indexed}
+use Rattle.render.proofs.Every.{every-member}
 
 -- INDEXES OF RISING PLACES
 
@@ -105,16 +106,12 @@ module _ (s : List ℕ) (ps : List ℕ) where
       go true = refl
       go false = ap some (found-numbered p h)
 
-  member-agrees : (p : ℕ) (known : List ℕ) → Every Agrees known → List·Memᴰ p known → Agrees p
-  member-agrees p [] h m = absurd (List·Memᴰ·not-nil m)
-  member-agrees p (q ∷ known) h m = ⊎-elim (λ e. rw e (h .0)) (member-agrees p known (h .1)) (List·Memᴰ·cases-cons m)
-
   all-numbered : (known : List ℕ) (rs : List Record) → Every Agrees known → OwnedFrom known rs → ((p : ℕ) → List·Memᴰ p (placesOf rs) → Found ps p)
       → map (λ r. renamed (indexIn ps) (bare s r)) rs ≡ map (renamed (numbered ps)) (map (bare s) rs)
   all-numbered known [] k o f = refl
   all-numbered known (r ∷ rs) k o f =
       let g = f (r .at) (List·Memᴰ·head refl) in
-      rw (member-agrees (r .owner) known k (o .0), found-numbered (r .at) g)
+      rw (every-member Agrees (o .0) k, found-numbered (r .at) g)
       (ap (λ l. renamed (numbered ps) (bare s r) ∷ l)
       (all-numbered (r .at ∷ known) rs (found-agrees (r .at) g, k) (o .1) (λ p m. f p (List·Memᴰ·tail m))))
 

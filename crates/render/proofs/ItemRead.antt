@@ -4,12 +4,16 @@ use mathlib.Core.Path.{_≡_, refl, sym, subst}
 use mathlib.Core.Bool.{Bool, true, false, cond, not, _&&_, _||_}
 use mathlib.Core.List.{List, _∷_}
 use native.Mathlib.Omega.{arith}
-use borrow.Author.Tests.{eqb-true, eqb-false, eq-eqb, not-true}
+use borrow.Author.Tests.{eqb-true, eqb-false, eq-eqb, not-true, le-leb}
 use lib.Dec.{eqb}
 use lib.ListN.{length, take, drop, length-take, length-drop}
 use Rattle.lexer.specs.Kinds as Kind
+use Rattle.numeral.specs.Numeral.{limit}
+use Rattle.numeral.specs.Stored.{valueOf}
+use Rattle.numeral.proofs.Word.{restored}
 use Rattle.word.specs.Words.{same, wordOf, word}
 use Rattle.word.specs.Codes.{valuesOf, codeOf}
+use Rattle.word.specs.Spelling.{secondOf}
 use Rattle.word.proofs.Words.{both, same-eq}
 use Rattle.grammar.specs.Tokens.{Tok, Ahead, Answer, ok, refused, then, complain, matches, expect}
 use Rattle.grammar.specs.Tokens as Tokens
@@ -25,10 +29,9 @@ use Rattle.grammar.proofs.Listed.{number-stored}
 use Rattle.render.specs.Pieces.{said}
 use Rattle.render.specs.Spelt.{isSpelt}
 use Rattle.render.specs.Plain.{Plain}
-use Rattle.word.specs.Spelling.{secondOf}
-use Rattle.render.specs.Says.{isCode, quoted, holds, gives}
+use Rattle.render.specs.Says.{isCode, isStored, quoted, holds, gives}
 use Rattle.render.proofs.Stands.{Good, plainRec}
-use Rattle.render.proofs.Values.{second-back, code-back, stored-back}
+use Rattle.render.proofs.Codes.{second-back, code-back}
 use Rattle.render.proofs.Fields.{given, untouched}
 
 -- TAKERS
@@ -108,6 +111,11 @@ module _ (k : ℕ) (a : Ahead ℕ Mark) where
         let (u, e) = q z in
         code-back k w u c e z)
         (second-coded k w b s a) second-begins
+
+-- a number that is stored can be said
+stored-back : (v : ℕ) → Stored v → isStored v (valueOf v) ≡ true
+stored-back v s =
+    rw (s .is, restored (s .negative) (s .magnitude) (s .within), le-leb (s .magnitude) limit (s .within .0), eq-eqb _ _ refl)
 
 -- ITEMS
 

@@ -13,6 +13,7 @@ use Rattle.lexer.specs.Kinds as Kind
 use Rattle.numeral.specs.Stored.{valueOf}
 use Rattle.word.specs.Words.{wordOf, word, isKey}
 use Rattle.word.specs.Codes.{valuesOf, codeOf}
+use Rattle.word.specs.Spelling.{spelling, firstOf, secondOf}
 use Rattle.word.proofs.Words.{both}
 use Rattle.grammar.specs.Tokens.{Ahead, Answer, ok, refused, then, complain, matches, expect}
 use Rattle.grammar.specs.Grammar.{Item, key, keyword, name, own, x, y, semi, value, first, firstKey, second, string, code, ifMore, noName, among, whole}
@@ -22,12 +23,14 @@ use Rattle.grammar.specs.Reading.{Mark}
 use Rattle.render.specs.Pieces.{Said, said}
 use Rattle.render.specs.Spelt.{isSpelt}
 use Rattle.render.specs.Plain.{Plain}
-use Rattle.word.specs.Spelling.{spelling, firstOf, secondOf}
 use Rattle.render.specs.Says.{isCode, isStored, word as named, semicolon, quoted, says, shows, any, omitted, saysAll, holds, holdsAll, withName, withCode, withX, withY, gives, givesAll}
 use Rattle.render.proofs.Stands.{standing, endsNoName}
-use Rattle.render.proofs.Takers.{headed, starts, Back, back-then, back-true, expect-back, get-key-back, expect-key-back, expect-keyword-back, expect-ident-back, parse-enum-back, parse-number-back}
-use Rattle.render.proofs.Words.{well-spelt, key-first, code-some, code-alone, code-begins, first-key, first-again, second-none, second-some}
-use Rattle.render.proofs.Sound.{leads, noSemi, isSemi, noWord, secondNext, sound, led, says-start, coded-next, ends-later}
+use Rattle.render.proofs.Codes.{code-some, code-alone, code-begins}
+use Rattle.render.proofs.ItemsSpelt.{nextAsks, next-code}
+use Rattle.render.proofs.TakersBack.{headed, starts, Back, back-then, back-true, expect-back, get-key-back, expect-key-back, expect-keyword-back, expect-ident-back, parse-enum-back, parse-number-back}
+use Rattle.render.proofs.LineTokens.{says-start}
+use Rattle.render.proofs.WordsBack.{well-spelt, key-first, first-key, first-again, second-none, second-some}
+use Rattle.render.proofs.Legible.{leads, noSemi, isSemi, noWord, legible, led, ends-later}
 
 -- WHAT IS BEING READ
 
@@ -111,15 +114,15 @@ module _ (f : Frame ℕ) (r : Plain) (place : ℕ) (owner : Maybe ℕ) (us : Lis
       (rw (k, e) (code-begins (r .kind) (r .code) c)) (ap (λ v. setFirst v d) e, z)
 
   -- WHAT THE ITEMS WRITE IS READ, the first m of them left out: where g the first word of a value was read, and where h the number x
-  pub items-back : (m : ℕ) (is : List Item) (g h : Bool) → sound (r .kind) m g h is ≡ true → (d : Draft ℕ) (p : Plain) → Read p d
+  pub items-back : (m : ℕ) (is : List Item) (g h : Bool) → legible (r .kind) m g h is ≡ true → (d : Draft ℕ) (p : Plain) → Read p d
       → (g ≡ true → d .first ≡ firstOf (r .kind) (r .code)) → (h ≡ true → d .rec .x ≡ r .x)
       → asked m is ≡ true → (endsNoName is ≡ true → headed noWord us ≡ true)
       → (a : Ahead ℕ Mark) → standing a ≡ rest m is → Back (Read (givesAll m is r p)) us (items m f is d a)
-  unfolding items item sound saysAll says omitted holdsAll holds givesAll gives endsNoName
+  unfolding items item legible saysAll says omitted holdsAll holds givesAll gives endsNoName
   items-back m [] g h t d p l i j e q a z = (l, z)
   items-back (suc m) (v ∷ is) g h t d p l i j e q a z = items-back m is g h t d p l i j e (λ n. q (ends-later v is n)) a z
   items-back zero (key w ∷ is) g h t d p l i j e q a z =
-      let (k, n) = both (isKey (word w)) (sound (r .kind) 0 g h is) t in
+      let (k, n) = both (isKey (word w)) (legible (r .kind) 0 g h is) t in
       took (λ v. v ≡ word w) (Read (givesAll 0 is r p)) (rest 0 is) us (expect-key (word w) a) (λ v. d) (λ e b. items 0 f is e b)
       (expect-key-back a (said Kind.name (bytes w)) (rest 0 is) z (start 0 is) refl (word w) refl k)
       (λ v b c o. items-back 0 is g h n d p l i j e q b o)
@@ -150,7 +153,7 @@ module _ (f : Frame ℕ) (r : Plain) (place : ℕ) (owner : Maybe ℕ) (us : Lis
       (expect-back a semicolon (rest 0 is) z (start 0 is) Kind.semicolon refl)
       (λ u b c o. items-back 0 is g h t d p l i j e q b o)
   items-back zero (value ∷ is) g h t d p l i j e q a z =
-      let (w, n) = both (well-spelt (r .kind)) (sound (r .kind) 0 g h is) t in
+      let (w, n) = both (well-spelt (r .kind)) (legible (r .kind) 0 g h is) t in
       let (u, k) = both (isCode (r .kind) (r .code) && eqb (secondOf (r .kind) (r .code)) 0) (asked 0 is) e in
       let (c, v) = both (isCode (r .kind) (r .code)) (eqb (secondOf (r .kind) (r .code)) 0) u in
       took (λ v. v ≡ r .code) (Read (givesAll 0 is r (withCode (r .code) p))) (rest 0 is) us (parse-enum (λ w. codeOf (d .rec .kind) w 0) a) (λ v. setCode v d) (λ e b. items 0 f is e b)
@@ -158,9 +161,9 @@ module _ (f : Frame ℕ) (r : Plain) (place : ℕ) (owner : Maybe ℕ) (us : Lis
       (rw (l .kind, first-again (r .kind) (r .code) c w) (code-alone (r .kind) (r .code) c v)) (code-some (r .kind) (r .code) c))
       (λ v b c o. items-back 0 is g h n (setCode v d) (withCode (r .code) p) (recoded (r .code) d p l v c) i j k q b o)
   items-back zero (first ∷ is) g h t d p l i j e q a z =
-      let (w, n) = both (secondNext is) (well-spelt (r .kind) && sound (r .kind) 0 true h is) t in
-      let (v, k) = both (well-spelt (r .kind)) (sound (r .kind) 0 true h is) n in
-      let c = coded-next (f .label) (f .lacks) r is w e in
+      let (w, n) = both (nextAsks is) (well-spelt (r .kind) && legible (r .kind) 0 true h is) t in
+      let (v, k) = both (well-spelt (r .kind)) (legible (r .kind) 0 true h is) n in
+      let c = next-code (f .label) (f .lacks) r is w e in
       let u = firstOf (r .kind) (r .code) in
       back-then (λ e. e ≡ setFirst u d) (Read (givesAll 0 is r p)) (rest 0 is) us (item f first d a) (λ e b. items 0 f is e b)
       (back-then (λ t. t .bytes ≡ spelling u) (λ e. e ≡ setFirst u d) (rest 0 is) (rest 0 is) (get-name a) _
@@ -168,10 +171,10 @@ module _ (f : Frame ℕ) (r : Plain) (place : ℕ) (owner : Maybe ℕ) (us : Lis
       (λ t b y o. firsted is d b (wordOf (t .bytes)) (l .kind) c (ap wordOf y ∙ first-again (r .kind) (r .code) c v) o))
       (λ b o y z. rw y (items-back 0 is true h k (setFirst u d) p (refirst u d p l) (λ n. refl) j e q o z))
   items-back zero (firstKey ∷ is) g h t d p l i j e q a z =
-      let (w, n) = both (secondNext is) (well-spelt (r .kind) && (key-first (r .kind) && sound (r .kind) 0 true h is)) t in
-      let (v, m) = both (well-spelt (r .kind)) (key-first (r .kind) && sound (r .kind) 0 true h is) n in
-      let (o, k) = both (key-first (r .kind)) (sound (r .kind) 0 true h is) m in
-      let c = coded-next (f .label) (f .lacks) r is w e in
+      let (w, n) = both (nextAsks is) (well-spelt (r .kind) && (key-first (r .kind) && legible (r .kind) 0 true h is)) t in
+      let (v, m) = both (well-spelt (r .kind)) (key-first (r .kind) && legible (r .kind) 0 true h is) n in
+      let (o, k) = both (key-first (r .kind)) (legible (r .kind) 0 true h is) m in
+      let c = next-code (f .label) (f .lacks) r is w e in
       let u = firstOf (r .kind) (r .code) in
       let y = first-again (r .kind) (r .code) c v in
       back-then (λ e. e ≡ setFirst u d) (Read (givesAll 0 is r p)) (rest 0 is) us (item f firstKey d a) (λ e b. items 0 f is e b)
@@ -180,9 +183,9 @@ module _ (f : Frame ℕ) (r : Plain) (place : ℕ) (owner : Maybe ℕ) (us : Lis
       (λ w b x o. firsted is d b w (l .kind) c (x ∙ y) o))
       (λ b o y z. rw y (items-back 0 is true h k (setFirst u d) p (refirst u d p l) (λ n. refl) j e q o z))
   items-back zero (second ∷ is) g h t d p l i j e q a z =
-      let (b, n) = both g (well-spelt (r .kind) && (leads isSemi 0 is && sound (r .kind) 0 g h is)) t in
-      let (w, m) = both (well-spelt (r .kind)) (leads isSemi 0 is && sound (r .kind) 0 g h is) n in
-      let (u, k) = both (leads isSemi 0 is) (sound (r .kind) 0 g h is) m in
+      let (b, n) = both g (well-spelt (r .kind) && (leads isSemi 0 is && legible (r .kind) 0 g h is)) t in
+      let (w, m) = both (well-spelt (r .kind)) (leads isSemi 0 is && legible (r .kind) 0 g h is) n in
+      let (u, k) = both (leads isSemi 0 is) (legible (r .kind) 0 g h is) m in
       let (c, v) = both (isCode (r .kind) (r .code)) (asked 0 is) e in
       took (λ v. v ≡ r .code) (Read (givesAll 0 is r (withCode (r .code) p))) (rest 0 is) us (parse-second (d .rec .kind) (d .first) a) (λ v. setCode v d) (λ e b. items 0 f is e b)
       (rw (l .kind, i b) (seconded is c w u a (eqb (secondOf (r .kind) (r .code)) 0) refl z))
@@ -199,17 +202,17 @@ module _ (f : Frame ℕ) (r : Plain) (place : ℕ) (owner : Maybe ℕ) (us : Lis
   items-back zero (code c ∷ is) g h t d p l i j e q a z =
       items-back 0 is g h t (setCode c d) (withCode c p) (recoded c d p l c refl) i j (both (eqb (r .code) c) (asked 0 is) e .1) q a z
   items-back zero (ifMore n ∷ is) g h t d p l i j e q a z =
-      let (v, w) = both (leads noSemi 0 is && sound (r .kind) 0 g h is) (leads isSemi n is && sound (r .kind) n g h is) t in
-      let (b, c) = both (leads noSemi 0 is) (sound (r .kind) 0 g h is) v in
-      let (k, m) = both (leads isSemi n is) (sound (r .kind) n g h is) w in
+      let (v, w) = both (leads noSemi 0 is && legible (r .kind) 0 g h is) (leads isSemi n is && legible (r .kind) n g h is) t in
+      let (b, c) = both (leads noSemi 0 is) (legible (r .kind) 0 g h is) v in
+      let (k, m) = both (leads isSemi n is) (legible (r .kind) n g h is) w in
       more n is d p a b k (λ e z. items-back 0 is g h c d p l i j e q a z) (λ e z. items-back n is g h m d p l i j e q a z) (any (shows r) (take n is)) e z
   items-back zero (noName ∷ []) g h t d p l i j e q a z = spares (Read p) us 8 d a (λ e b. items 0 f [] e b) (matches Kind.name a) (not-true _ (held-first noWord a us z (q refl))) (l, z)
   items-back zero (noName ∷ v ∷ is) g h t d p l i j e q a z =
-      let (n, k) = both (leads noWord 0 (v ∷ is)) (sound (r .kind) 0 g h (v ∷ is)) t in
+      let (n, k) = both (leads noWord 0 (v ∷ is)) (legible (r .kind) 0 g h (v ∷ is)) t in
       spares (Read (givesAll 0 (v ∷ is) r p)) us 8 d a (λ e b. items 0 f (v ∷ is) e b) (matches Kind.name a) (not-true _ (held-first noWord a (rest 0 (v ∷ is)) z (led (f .label) r us noWord 0 (v ∷ is) n)))
       (items-back 0 (v ∷ is) g h k d p l i j e q a z)
   items-back zero (among vs ∷ is) g h t d p l i j e q a z =
-      let (b, n) = both h (sound (r .kind) 0 g h is) t in
+      let (b, n) = both h (legible (r .kind) 0 g h is) t in
       let (m, k) = both (member vs (r .x)) (asked 0 is) e in
       passes (Read (givesAll 0 is r p)) us 6 d a (λ e b. items 0 f is e b) (member vs (d .rec .x)) (rw (j b) m) (items-back 0 is g h n d p l i j k q a z)
   items-back zero (whole n ∷ is) g h t d p l i j e q a z =

@@ -16,34 +16,31 @@ use Rattle.grammar.specs.Standing.{Every}
 use Rattle.grammar.specs.Reading.{Mark}
 use Rattle.grammar.proofs.Answers.{Ok, Holds}
 use Rattle.grammar.proofs.Takes.{numbered, all-numbered}
-use Rattle.grammar.proofs.Kept.{Suf, here, there, all, Kept, items-kept}
+use Rattle.grammar.proofs.Kept.{all, Kept, items-kept}
 use Rattle.grammar.proofs.Listed.{skip, passed-either}
 use Rattle.render.specs.Says.{holdsAll, givesAll}
 use Rattle.render.specs.Forms.{nobody}
 use Rattle.render.specs.Fit.{emptied}
+use Rattle.render.proofs.Every.{every-suf}
 use Rattle.render.proofs.Stands.{Good}
 use Rattle.render.proofs.Fields.{part, given, asked, untouched, untouched-drop, others-stay, alike}
 use Rattle.render.proofs.ItemRead.{plain, Begun, ready, Took, item-took}
-use Rattle.render.proofs.Optional.{optional, omits}
+use Rattle.render.proofs.OmittedRead.{optional, omits}
 
 -- A test of the items of a statement of the kind k, of which the first m are passed over and `seen` were read: nothing gives again the field
 -- of an item, and where a part is optional the record tells whether it was read.
 abbrev fits-here : ℕ → List Item → Item → List Item → Bool
 fits-here k seen i is = (numbered i && ready k seen i) && (untouched (asked i) is && optional (i ∷ seen) i is)
 
-unfoldable pub sound : ℕ → ℕ → List Item → List Item → Bool
-sound k m seen [] = true
-sound k (suc m) seen (i ∷ is) = sound k m seen is
-sound k zero seen (i ∷ is) = fits-here k seen i is && (sound k 0 (i ∷ seen) is && sound k (skip i) (i ∷ seen) is)
+unfoldable pub writable : ℕ → ℕ → List Item → List Item → Bool
+writable k m seen [] = true
+writable k (suc m) seen (i ∷ is) = writable k m seen is
+writable k zero seen (i ∷ is) = fits-here k seen i is && (writable k 0 (i ∷ seen) is && writable k (skip i) (i ∷ seen) is)
 
 then-ok : {B C : Type 0} (t : Answer ℕ Mark B) (k : B → Ahead ℕ Mark → Answer ℕ Mark C) {e : C} {c : Ahead ℕ Mark} → then t k ≡ ok e c
     → (v : B) × (b : Ahead ℕ Mark) × (t ≡ ok v b) × (k v b ≡ ok e c)
 then-ok (ok v b) k h = (v, b, refl, h)
 then-ok (refused n p) k h = absurd (let z : _≡_ {A = ℕ} 0 1 = cc in omega arith)
-
-pub every-suf : {B : Type 0} (P : B → Type 0) {k l : List B} → Suf k l → Every P l → Every P k
-every-suf P here h = h
-every-suf P (there s) h = every-suf P s (h .1)
 
 -- fields that no item gave are empty
 abbrev Fresh : List Item → Draft ℕ → Type 0
@@ -94,9 +91,9 @@ module _ (f : Frame ℕ) where
             r .stays g (untouched-drop g m is z) ∙ left t g (not-true (eqb g (given i)) v);
       }
 
-  items-read : (k m : ℕ) (is seen : List Item) (d e : Draft ℕ) (a c : Ahead ℕ Mark) → sound k m seen is ≡ true → d .rec .kind ≡ k
+  items-read : (k m : ℕ) (is seen : List Item) (d e : Draft ℕ) (a c : Ahead ℕ Mark) → writable k m seen is ≡ true → d .rec .kind ≡ k
       → Fresh seen d → Begun seen d → Every Good (all a) → items m f is d a ≡ ok e c → ReadAs m is d e
-  unfolding items sound holdsAll givesAll
+  unfolding items writable holdsAll givesAll
   items-read k m [] seen d e a c z q s n g h =
       let p : d ≡ e = cc in
       subst (ReadAs m [] d) p (record { keeps = refl; holds = refl; given = refl; stays = λ g u. refl })
@@ -104,20 +101,20 @@ module _ (f : Frame ℕ) where
       let r = items-read k m is seen d e a c z q s n g h in
       record { keeps = r .keeps; holds = r .holds; given = r .given; stays = r .stays }
   items-read k zero (i ∷ is) seen d e a c z q s n g h =
-      let (at, on-and-over) = both (fits-here k seen i is) (sound k 0 (i ∷ seen) is && sound k (skip i) (i ∷ seen) is) z in
+      let (at, on-and-over) = both (fits-here k seen i is) (writable k 0 (i ∷ seen) is && writable k (skip i) (i ∷ seen) is) z in
       let (u, v) = both (numbered i && ready k seen i) (untouched (asked i) is && optional (i ∷ seen) i is) at in
       let (num, able) = both (numbered i) (ready k seen i) u in
       let (once, tells) = both (untouched (asked i) is) (optional (i ∷ seen) i is) v in
-      let (on, over) = both (sound k 0 (i ∷ seen) is) (sound k (skip i) (i ∷ seen) is) on-and-over in
+      let (on, over) = both (writable k 0 (i ∷ seen) is) (writable k (skip i) (i ∷ seen) is) on-and-over in
       let (j, b, r, l) = then-ok (item f i d a) (λ e b. items (passed i b) f is e b) h in
       let t : Took f seen d i j = subst (Holds (Took f seen d i)) r (item-took f seen d a n g i (rw q able)) in
       let kept = item-kept i num d j a b r in
       let fresh = fresher t s in
       further b once tells t (rw (kept .kind, kept .at, kept .owner)) fresh
-      (items-read k (passed i b) is (i ∷ seen) j e b c (passed-either i b (λ m. sound k m (i ∷ seen) is ≡ true) on over) (kept .kind ∙ q) fresh (t .begun) (every-suf Good (kept .ahead) g) l)
+      (items-read k (passed i b) is (i ∷ seen) j e b c (passed-either i b (λ m. writable k m (i ∷ seen) is ≡ true) on over) (kept .kind ∙ q) fresh (t .begun) (every-suf Good (kept .ahead) g) l)
 
   -- A STATEMENT THAT WAS READ CAN BE WRITTEN
-  pub statement-items : (k : ℕ) (is : List Item) (a b c : Ahead ℕ Mark) (e : Draft ℕ) → sound k 0 [] is ≡ true → Every Good (all b)
+  pub statement-items : (k : ℕ) (is : List Item) (a b c : Ahead ℕ Mark) (e : Draft ℕ) → writable k 0 [] is ≡ true → Every Good (all b)
       → items 0 f is (blank k f a) b ≡ ok e c → ReadAs 0 is (blank k f a) e
   unfolding part untouched
   statement-items k is a b c e z g h = items-read k 0 is [] (blank k f a) e b c z refl (λ g u. refl) (λ u. absurd (false≢true (sym u))) g h

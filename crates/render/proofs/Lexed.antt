@@ -1,7 +1,7 @@
 -- A written text lexes back to its tokens: blanks are passed over, and the run of each token ends with it, since a blank or the end follows.
 use Prim.Native.Nat.{ℕ, zero, suc, _+_, _-_, _<_}
 use mathlib.Core.Path.{_≡_, refl, sym, ap, _∙_}
-use mathlib.Core.Bool.{Bool, true, false, cond, _||_}
+use mathlib.Core.Bool.{Bool, true, false, cond, _||_, false≢true}
 use mathlib.Core.List.{List, [], _∷_, _++_, map}
 use native.Mathlib.Nat.{add-zero, add-sub-cancel-left}
 use native.Mathlib.Omega.{arith}
@@ -15,8 +15,9 @@ use Rattle.lexer.specs.Bytes.{classOf, isLetter, isDigit, isAscii, inName, inNu
 use Rattle.lexer.specs.Run.{run, past}
 use Rattle.lexer.specs.Kinds as Kind
 use Rattle.lexer.specs.Lex.{from, nextLine, token as found}
-use Rattle.lexer.proofs.Runs.{both, step}
+use Rattle.lexer.proofs.Runs.{step}
 use Rattle.lexer.proofs.Laws.{At, none, at-letter, at-space, at-digit, at-semicolon, at-newline, at-quote}
+use Rattle.word.proofs.Words.{both}
 use Rattle.grammar.specs.Reading.{tok}
 use Rattle.render.specs.Pieces.{Piece, spaces, newline, token, text, tokens, parted, apart}
 use Rattle.render.specs.Spelt.{all, isName, isNumber, isSemicolon, isString, isToken, isSpelt, allSpelt}
@@ -30,7 +31,7 @@ parted-run p e f [] h = refl
 parted-run p e f (spaces zero ∷ ps) h = parted-run p e f ps h
 parted-run p e f (spaces (suc n) ∷ ps) h = rw e
 parted-run p e f (newline ∷ ps) h = rw f
-parted-run p e f (token t ∷ ps) h = absurd (let z : _≡_ {A = ℕ} 0 1 = cc in omega arith)
+parted-run p e f (token t ∷ ps) h = absurd (false≢true h)
 
 module _ (s : List ℕ) where
   -- past what stands at a place, and its bytes
@@ -59,27 +60,27 @@ module _ (s : List ℕ) where
 
   reads-name : (w l : List ℕ) → isName w ≡ true → run inName l ≡ 0 → Reads Kind.name w l
   unfolding isName
-  reads-name [] l z x at n e = absurd (let o : _≡_ {A = ℕ} 0 1 = cc in omega arith)
+  reads-name [] l z x at n e = absurd (false≢true z)
   reads-name (b ∷ w) l z x at n e =
       let (f, g) = both (isLetter b) (all inName w) z in
       at-letter (stands at n b (w ++ l) Letter e (letter-class b f)) _ (run-ends inName at b w l e g x)
 
   reads-number : (w l : List ℕ) → isNumber w ≡ true → run inNumber l ≡ 0 → Reads Kind.number w l
   unfolding isNumber
-  reads-number [] l z x at n e = absurd (let o : _≡_ {A = ℕ} 0 1 = cc in omega arith)
+  reads-number [] l z x at n e = absurd (false≢true z)
   reads-number (b ∷ w) l z x at n e =
       let (f, g) = both (isDigit b || eqb b 45) (all inNumber w) z in
       at-digit (stands at n b (w ++ l) Digit e (digit-class b f)) _ (run-ends inNumber at b w l e g x)
 
   reads-semicolon : (w l : List ℕ) → isSemicolon w ≡ true → Reads Kind.semicolon w l
   unfolding isSemicolon classOf
-  reads-semicolon [] l z at n e = absurd (let o : _≡_ {A = ℕ} 0 1 = cc in omega arith)
+  reads-semicolon [] l z at n e = absurd (false≢true z)
   reads-semicolon (b ∷ []) l z at n e = at-semicolon (stands at n b l SemiColon e (rw (eqb-true b 59 z)))
-  reads-semicolon (b ∷ c ∷ w) l z at n e = absurd (let o : _≡_ {A = ℕ} 0 1 = cc in omega arith)
+  reads-semicolon (b ∷ c ∷ w) l z at n e = absurd (false≢true z)
 
   reads-string : (w l : List ℕ) → isString w ≡ true → Reads Kind.stringLiteral w l
   unfolding isString classOf
-  reads-string [] l z at n e = absurd (let o : _≡_ {A = ℕ} 0 1 = cc in omega arith)
+  reads-string [] l z at n e = absurd (false≢true z)
   reads-string (b ∷ w) l z at n e =
       let (f, g) = both (eqb b 34) (eqb (run inString w + 1) (length w)) z in
       let h = eqb-true (run inString w + 1) (length w) g in
@@ -97,7 +98,7 @@ module _ (s : List ℕ) where
       go false true c d e f g h z = rw (eqb-true k Kind.number f) (reads-number w l z y)
       go false false true d e f g h z = rw (eqb-true k Kind.semicolon g) (reads-semicolon w l z)
       go false false false true e f g h z = rw (eqb-true k Kind.stringLiteral h) (reads-string w l z)
-      go false false false false e f g h z = absurd (let o : _≡_ {A = ℕ} 0 1 = cc in omega arith)
+      go false false false false e f g h z = absurd (false≢true z)
 
   -- ---- blanks
   blanks : (k at n : ℕ) (l : List ℕ) → drop at s ≡ replicate k 32 ++ l → (from s at n ≡ from s (at + k) n) × (drop (at + k) s ≡ l)

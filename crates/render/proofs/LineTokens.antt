@@ -6,22 +6,24 @@ use mathlib.Core.Bool.{Bool, true, false, cond, not}
 use mathlib.Core.List.{List, [], _∷_, _++_, append-assoc, append-nil}
 use lib.Dec.{eqb}
 use lib.ListN.{length}
+use Rattle.word.specs.Spelling.{secondOf}
+use Rattle.word.proofs.Words.{both}
 use Rattle.grammar.specs.Tokens.{bad}
 use Rattle.grammar.specs.Grammar.{Item, key, keyword, name, own, x, y, semi, value, first, firstKey, second, string, code, ifMore, noName, among, whole, Body, keyed, worded, options, parts, counted}
 use Rattle.grammar.specs.Table.{body}
 use Rattle.grammar.specs.Engine.{Maybe, none, some, Frame}
 use Rattle.grammar.specs.Turns.{State}
-use Rattle.lexer.proofs.Runs.{both}
 use Rattle.render.specs.Pieces.{Said, Piece, newline, tokens}
 use Rattle.render.specs.Spelt.{all}
 use Rattle.render.specs.Plain.{Plain}
-use Rattle.word.specs.Spelling.{secondOf}
 use Rattle.render.specs.Says.{word, says, omitted, saysAll}
 use Rattle.render.specs.Forms.{Form, Close, begins, saidIn, closeOf, nobody, lastWords}
 use Rattle.render.specs.Lines.{spaced, indented, onLine, owns, formIn, settling, settled, ending, closing, endAll, before, taking, goesOn, statement, pieces, after, lines}
-use Rattle.render.proofs.Bytes.{all-append}
-use Rattle.render.proofs.Appended.{tokens-append, tokens-spaced, tokens-indented, tokens-line}
+use Rattle.render.proofs.All.{all-append}
 use Rattle.render.proofs.Stands.{endsNoName, follows, lastOf}
+use Rattle.render.proofs.Appended.{tokens-append, tokens-spaced, tokens-indented, tokens-line}
+use Rattle.render.proofs.TakersBack.{starts}
+use Rattle.render.proofs.Settled.{by-settling}
 
 -- BLANKS ASIDE
 
@@ -54,110 +56,115 @@ tokens-statement depth f r m = go (onLine (body (f .block))) (goesOn f (m .move)
 
 -- NO BYTE THAT STARTS NO TOKEN
 
-abbrev sound : Said → Bool
-sound t = not (eqb (t .kind) bad)
+abbrev lexable : Said → Bool
+lexable t = not (eqb (t .kind) bad)
 
-abbrev pub Sound : List Said → Type 0
-Sound ts = all sound ts ≡ true
+abbrev pub Lexable : List Said → Type 0
+Lexable ts = all lexable ts ≡ true
 
-says-sound : (label : List ℕ) (r : Plain) (i : Item) → Sound (says label r i)
+says-lexable : (label : List ℕ) (r : Plain) (i : Item) → Lexable (says label r i)
 unfolding says all
-says-sound label r (key w) = refl
-says-sound label r (keyword w) = refl
-says-sound label r name = refl
-says-sound label r own = refl
-says-sound label r x = refl
-says-sound label r y = refl
-says-sound label r semi = refl
-says-sound label r value = refl
-says-sound label r first = refl
-says-sound label r firstKey = refl
-says-sound label r second = go (eqb (secondOf (r .kind) (r .code)) 0)
+says-lexable label r (key w) = refl
+says-lexable label r (keyword w) = refl
+says-lexable label r name = refl
+says-lexable label r own = refl
+says-lexable label r x = refl
+says-lexable label r y = refl
+says-lexable label r semi = refl
+says-lexable label r value = refl
+says-lexable label r first = refl
+says-lexable label r firstKey = refl
+says-lexable label r second = go (eqb (secondOf (r .kind) (r .code)) 0)
   where
-    go : (c : Bool) → Sound (cond c [] (word (secondOf (r .kind) (r .code)) ∷ []))
+    go : (c : Bool) → Lexable (cond c [] (word (secondOf (r .kind) (r .code)) ∷ []))
     go true = refl
     go false = refl
-says-sound label r (string n) = refl
-says-sound label r (code c) = refl
-says-sound label r (ifMore n) = refl
-says-sound label r noName = refl
-says-sound label r (among vs) = refl
-says-sound label r (whole n) = refl
+says-lexable label r (string n) = refl
+says-lexable label r (code c) = refl
+says-lexable label r (ifMore n) = refl
+says-lexable label r noName = refl
+says-lexable label r (among vs) = refl
+says-lexable label r (whole n) = refl
 
-saysAll-sound : (m : ℕ) (label : List ℕ) (is : List Item) (r : Plain) → Sound (saysAll m label is r)
+saysAll-lexable : (m : ℕ) (label : List ℕ) (is : List Item) (r : Plain) → Lexable (saysAll m label is r)
 unfolding saysAll all
-saysAll-sound m label [] r = refl
-saysAll-sound (suc m) label (i ∷ is) r = saysAll-sound m label is r
-saysAll-sound zero label (i ∷ is) r = all-append sound (says label r i) _ (says-sound label r i) (saysAll-sound (omitted r i is) label is r)
+saysAll-lexable m label [] r = refl
+saysAll-lexable (suc m) label (i ∷ is) r = saysAll-lexable m label is r
+saysAll-lexable zero label (i ∷ is) r = all-append lexable (says label r i) _ (says-lexable label r i) (saysAll-lexable (omitted r i is) label is r)
 
-begins-sound : (ws : List String) → Sound (begins ws)
-unfolding begins all
-begins-sound [] = refl
-begins-sound (w ∷ ws) = begins-sound ws
-
-saidIn-sound : (label : List ℕ) (m : Form) (r : Plain) → Sound (saidIn label m r)
-unfolding saidIn
-saidIn-sound label m r = all-append sound (begins (m .begin)) _ (begins-sound (m .begin)) (saysAll-sound 0 label (m .items) r)
-
-lastWords-sound : (label : List ℕ) (c : Maybe Close) → Sound (lastWords label c)
-unfolding lastWords all
-lastWords-sound label none = refl
-lastWords-sound label (some c) = saysAll-sound 0 label (c .items) nobody
-
-pub lastOf-sound : (label : List ℕ) (b : Body) → Sound (lastOf label b)
+-- what is said starts a token, if what follows does
+pub says-start : (label : List ℕ) (r : Plain) (us : List Said) → starts us ≡ true → (m : ℕ) (is : List Item) → starts (saysAll m label is r ++ us) ≡ true
 unfolding all
-lastOf-sound label (keyed n rows) = lastWords-sound label (closeOf rows)
-lastOf-sound label (worded rows) = lastWords-sound label (closeOf rows)
-lastOf-sound label (options rows b) = refl
-lastOf-sound label (parts k is) = refl
-lastOf-sound label (counted k is) = refl
-
-settling-sound : (b : Body) → Sound (tokens (settling b))
-unfolding tokens spaced all
-settling-sound (keyed n rows) = refl
-settling-sound (worded rows) = refl
-settling-sound (options rows b) = refl
-settling-sound (parts k is) = refl
-settling-sound (counted k is) = refl
-
-two-sound : (ps qs : List Piece) → Sound (tokens ps) → Sound (tokens qs) → Sound (tokens (ps ++ qs))
-two-sound ps qs h k = rw tokens-append (all-append sound (tokens ps) (tokens qs) h k)
-
-closing-sound : (f : Frame ℕ) (fs : List (Frame ℕ)) → Sound (tokens (closing f fs))
-closing-sound f fs = two-sound (settling (body (f .block))) _ (settling-sound (body (f .block))) (rw tokens-ending (lastOf-sound (f .label) (body (settled f .block))))
-
-before-sound : (f : Frame ℕ) (m : Maybe Form) → Sound (tokens (before f m))
-unfolding tokens all
-before-sound f none = settling-sound (body (f .block))
-before-sound f (some m) = refl
-
-pub statement-sound : (depth : ℕ) (f : Frame ℕ) (r : Plain) (m : Maybe Form) → Sound (tokens (statement depth f r m))
-unfolding tokens all
-statement-sound depth f r none = refl
-statement-sound depth f r (some m) = rw (tokens-statement depth f r m) (saidIn-sound (f .label) m r)
-
-pub endAll-sound : (fs : List (Frame ℕ)) → Sound (tokens (endAll fs))
-unfolding endAll tokens all
-endAll-sound [] = refl
-endAll-sound (f ∷ fs) = two-sound (closing f fs) (endAll fs) (closing-sound f fs) (endAll-sound fs)
-
-pub pieces-sound : (fs : List (Frame ℕ)) (r : Plain) → Sound (tokens (pieces fs r))
-unfolding pieces tokens all
-pieces-sound [] r = refl
-pieces-sound (f ∷ fs) r = go (owns f r) (pieces-sound fs r)
+says-start label r us s m is = go (saysAll m label is r) (saysAll-lexable m label is r)
   where
-    go : (c : Bool) → Sound (tokens (pieces fs r))
-        → Sound (tokens (cond c (before f (formIn f r) ++ statement (length fs) (taking f r) r (formIn (taking f r) r)) (closing f fs ++ pieces fs r)))
-    go true h = two-sound (before f (formIn f r)) _ (before-sound f (formIn f r)) (statement-sound (length fs) (taking f r) r (formIn (taking f r) r))
-    go false h = two-sound (closing f fs) (pieces fs r) (closing-sound f fs) h
+    go : (ts : List Said) → Lexable ts → starts (ts ++ us) ≡ true
+    go [] h = s
+    go (t ∷ ts) h = both (lexable t) (all lexable ts) h .0
 
-pub lines-sound : (s : State ℕ) (rs : List Plain) → Sound (tokens (lines s rs))
+begins-lexable : (ws : List String) → Lexable (begins ws)
+unfolding begins all
+begins-lexable [] = refl
+begins-lexable (w ∷ ws) = begins-lexable ws
+
+saidIn-lexable : (label : List ℕ) (m : Form) (r : Plain) → Lexable (saidIn label m r)
+unfolding saidIn
+saidIn-lexable label m r = all-append lexable (begins (m .begin)) _ (begins-lexable (m .begin)) (saysAll-lexable 0 label (m .items) r)
+
+lastWords-lexable : (label : List ℕ) (c : Maybe Close) → Lexable (lastWords label c)
+unfolding lastWords all
+lastWords-lexable label none = refl
+lastWords-lexable label (some c) = saysAll-lexable 0 label (c .items) nobody
+
+pub lastOf-lexable : (label : List ℕ) (b : Body) → Lexable (lastOf label b)
+unfolding all
+lastOf-lexable label (keyed n rows) = lastWords-lexable label (closeOf rows)
+lastOf-lexable label (worded rows) = lastWords-lexable label (closeOf rows)
+lastOf-lexable label (options rows b) = refl
+lastOf-lexable label (parts k is) = refl
+lastOf-lexable label (counted k is) = refl
+
+settling-lexable : (b : Body) → Lexable (tokens (settling b))
+unfolding tokens spaced all
+settling-lexable = by-settling (λ ps. Lexable (tokens ps)) refl refl
+
+two-lexable : (ps qs : List Piece) → Lexable (tokens ps) → Lexable (tokens qs) → Lexable (tokens (ps ++ qs))
+two-lexable ps qs h k = rw tokens-append (all-append lexable (tokens ps) (tokens qs) h k)
+
+closing-lexable : (f : Frame ℕ) (fs : List (Frame ℕ)) → Lexable (tokens (closing f fs))
+closing-lexable f fs = two-lexable (settling (body (f .block))) _ (settling-lexable (body (f .block))) (rw tokens-ending (lastOf-lexable (f .label) (body (settled f .block))))
+
+before-lexable : (f : Frame ℕ) (m : Maybe Form) → Lexable (tokens (before f m))
+unfolding tokens all
+before-lexable f none = settling-lexable (body (f .block))
+before-lexable f (some m) = refl
+
+pub statement-lexable : (depth : ℕ) (f : Frame ℕ) (r : Plain) (m : Maybe Form) → Lexable (tokens (statement depth f r m))
+unfolding tokens all
+statement-lexable depth f r none = refl
+statement-lexable depth f r (some m) = rw (tokens-statement depth f r m) (saidIn-lexable (f .label) m r)
+
+pub endAll-lexable : (fs : List (Frame ℕ)) → Lexable (tokens (endAll fs))
+unfolding endAll tokens all
+endAll-lexable [] = refl
+endAll-lexable (f ∷ fs) = two-lexable (closing f fs) (endAll fs) (closing-lexable f fs) (endAll-lexable fs)
+
+pub pieces-lexable : (fs : List (Frame ℕ)) (r : Plain) → Lexable (tokens (pieces fs r))
+unfolding pieces tokens all
+pieces-lexable [] r = refl
+pieces-lexable (f ∷ fs) r = go (owns f r) (pieces-lexable fs r)
+  where
+    go : (c : Bool) → Lexable (tokens (pieces fs r))
+        → Lexable (tokens (cond c (before f (formIn f r) ++ statement (length fs) (taking f r) r (formIn (taking f r) r)) (closing f fs ++ pieces fs r)))
+    go true h = two-lexable (before f (formIn f r)) _ (before-lexable f (formIn f r)) (statement-lexable (length fs) (taking f r) r (formIn (taking f r) r))
+    go false h = two-lexable (closing f fs) (pieces fs r) (closing-lexable f fs) h
+
+pub lines-lexable : (s : State ℕ) (rs : List Plain) → Lexable (tokens (lines s rs))
 unfolding lines
-lines-sound s [] = endAll-sound (s .blocks)
-lines-sound s (r ∷ rs) = two-sound (pieces (s .blocks) r) _ (pieces-sound (s .blocks) r) (lines-sound (after (s .version) (s .blocks) r) rs)
+lines-lexable s [] = endAll-lexable (s .blocks)
+lines-lexable s (r ∷ rs) = two-lexable (pieces (s .blocks) r) _ (pieces-lexable (s .blocks) r) (lines-lexable (after (s .version) (s .blocks) r) rs)
 
 -- what may follow stays so with tokens before it
-pub follows-more : (ts us : List Said) → Sound ts → follows [] us ≡ true → follows [] (ts ++ us) ≡ true
+pub follows-more : (ts us : List Said) → Lexable ts → follows [] us ≡ true → follows [] (ts ++ us) ≡ true
 unfolding all endsNoName
 follows-more [] us h k = k
-follows-more (t ∷ ts) us h k = rw (both (sound t) (all sound ts) h .0)
+follows-more (t ∷ ts) us h k = rw (both (lexable t) (all lexable ts) h .0)

@@ -12,9 +12,9 @@ use Rattle.word.proofs.Words.{both}
 use Rattle.grammar.specs.Tokens.{Ahead}
 use Rattle.grammar.specs.Table.{body}
 use Rattle.grammar.specs.Engine.{Maybe, none, some, Rec, Frame}
-use Rattle.grammar.specs.Turns.{State, state, gives, shift, labelOf, read, more, turn}
+use Rattle.grammar.specs.Turns.{State, state, shift, labelOf, read, more}
 use Rattle.grammar.specs.Reading.{Mark}
-use Rattle.grammar.proofs.Falls.{readOn, reads-emit, reads-done}
+use Rattle.grammar.proofs.Falls.{readOn}
 use Rattle.render.specs.Pieces.{Said, tokens}
 use Rattle.render.specs.Stripped.{finish}
 use Rattle.render.specs.Plain.{Plain}
@@ -22,13 +22,15 @@ use Rattle.render.specs.Forms.{Form, formsIn, formFor, saidIn}
 use Rattle.render.specs.Lines.{owns, formIn, settled, settling, closing, endAll, takenBy, taking, before, statement, entered, pieces, after, lines}
 use Rattle.render.specs.Fit.{takes, mayEnd, comes, ends, admits, allEnd, fitFrom, indexed}
 use Rattle.render.proofs.Stands.{standing, Like, follows, endsNoName, lastOf}
+use Rattle.render.proofs.Settled.{settled-keeps}
+use Rattle.render.proofs.LineTokens.{tokens-then, tokens-closing, tokens-statement, statement-lexable, endAll-lexable, pieces-lexable, lines-lexable, follows-more}
+use Rattle.render.proofs.StepsBack.{statement-back}
 use Rattle.render.proofs.Alike.{Owner, Matches, AllMatch, Corresponds, Alike}
-use Rattle.render.proofs.LineTokens.{tokens-then, tokens-closing, tokens-statement, statement-sound, endAll-sound, pieces-sound, lines-sound, follows-more}
+use Rattle.render.proofs.Turns.{given-reads, none-open}
 use Rattle.render.proofs.NextWord.{isBackWord, Heads, heads-comes, heads-ends}
 use Rattle.render.proofs.AfterItems.{items-follow}
 use Rattle.render.proofs.Matched.{same-eq, settled-match, mayEnd-match, takes-match, shift-match}
-use Rattle.render.proofs.BlocksBack.{turn-of, settled-keeps, settle-back, closing-back}
-use Rattle.render.proofs.StepsBack.{statement-back}
+use Rattle.render.proofs.BlocksBack.{settle-back, closing-back}
 
 -- all that stands ahead where these records are still to be read
 abbrev ahead : State ℕ → List Plain → List Said
@@ -36,7 +38,7 @@ ahead s rs = tokens (lines s rs) ++ (finish ∷ [])
 
 ahead-follows : (s : State ℕ) (rs : List Plain) → follows [] (ahead s rs) ≡ true
 unfolding endsNoName
-ahead-follows s rs = follows-more (tokens (lines s rs)) (finish ∷ []) (lines-sound s rs) refl
+ahead-follows s rs = follows-more (tokens (lines s rs)) (finish ∷ []) (lines-lexable s rs) refl
 
 -- the reader in the state t reads the record r from a on, where the writer is then in the state s and the records rs come next
 abbrev Reads : List ℕ → State ℕ → Plain → State ℕ → List Plain → Ahead ℕ Mark → Type 0
@@ -63,15 +65,15 @@ block-ends seen v w f g fs gs a us m e s k h =
 
 all-ends : (seen : List ℕ) (v : ℕ) (fs gs : List (Frame ℕ)) (a : Ahead ℕ Mark) → AllMatch seen fs gs → allEnd fs ≡ true
     → standing a ≡ tokens (endAll fs) ++ (finish ∷ []) → readOn (state v gs) a ≡ read []
-unfolding allEnd endAll turn endsNoName
-all-ends seen v [] [] a m e s = reads-done (state v []) a refl
+unfolding allEnd endAll endsNoName
+all-ends seen v [] [] a m e s = none-open v a
 all-ends seen v [] (g ∷ gs) a m e s = absurd m
 all-ends seen v (f ∷ fs) [] a m e s = absurd m
 all-ends seen v (f ∷ fs) (g ∷ gs) a m e s =
     let us = tokens (endAll fs) ++ (finish ∷ []) in
     let (p, q) = both (mayEnd f (ends fs)) (allEnd fs) e in
     let (b, t, d) = block-ends seen v (ends fs) f g fs gs a us (m .0) p (s ∙ tokens-then (closing f fs) (endAll fs) (finish ∷ []))
-    (follows-more (tokens (endAll fs)) (finish ∷ []) (endAll-sound fs) refl) (heads-ends fs (finish ∷ [])) in
+    (follows-more (tokens (endAll fs)) (finish ∷ []) (endAll-lexable fs) refl) (heads-ends fs (finish ∷ [])) in
     t ∙ all-ends seen v fs gs b (m .1) q d
 
 -- A RECORD
@@ -90,7 +92,7 @@ module _ (seen : List ℕ) (v : ℕ) (r : Plain) (rs : List Plain) (i : r .at �
       let (q, b, c, l, z, w, d) = statement-back v g n r a us j (sym (takes-match seen f g m v r (some n)) ∙ t) x (items-follow v f fs r rs n e k) in
       let y : Owner seen (r .owner) (q .owner) = subst (Owner seen (r .owner)) (sym w) (subst (λ j. Owner seen j (g .at)) p (m .at)) in
       let u = shift (n .move) (q .kind) (q .at) (labelOf (q .name)) (q .x) v g gs in
-      (q, u, b, reads-emit (state v (g ∷ gs)) a {r = q} {t = u} {b = b} (turn-of v g gs a (gives (n .move) q b) c), l, y, shift-match seen q r l i v f g fs gs m ms (n .move), d)
+      (q, u, b, given-reads v g gs a b (n .move) q c, l, y, shift-match seen q r l i v f g fs gs m ms (n .move), d)
 
   -- the line of options ends first where it has to
   owned : (f g : Frame ℕ) (fs gs : List (Frame ℕ)) (o : Maybe Form) (a : Ahead ℕ Mark) → Matches seen f g → AllMatch seen fs gs
@@ -104,7 +106,7 @@ module _ (seen : List ℕ) (v : ℕ) (r : Plain) (rs : List Plain) (i : r .at �
       let us = ahead (entered v (settled f) fs r n) rs in
       let x = s ∙ tokens-then (settling (body (f .block))) ps us ∙ ap (λ b. tokens (settling (body b)) ++ (tokens ps ++ us)) (m .block) in
       let (b, q, d) = settle-back v g gs a (tokens ps ++ us) x
-      (follows-more (tokens ps) us (statement-sound (length fs) (settled f) r n) (ahead-follows (entered v (settled f) fs r n) rs)) in
+      (follows-more (tokens ps) us (statement-lexable (length fs) (settled f) r n) (ahead-follows (entered v (settled f) fs r n) rs)) in
       reads-from seen (state v (g ∷ gs)) (state v (settled g ∷ gs)) r (entered v (settled f) fs r n) rs a b q
       (taken (settled f) (settled g) fs gs n b (settled-match seen f g m) ms (settled-keeps f .1 ∙ p) refl t k d)
   owned f g fs gs (some n) a m ms p t k s = taken f g fs gs (formIn f r) a m ms p refl t k s
@@ -127,7 +129,7 @@ module _ (seen : List ℕ) (v : ℕ) (r : Plain) (rs : List Plain) (i : r .at �
           let us = tokens (pieces fs r) ++ ahead (after v fs r) rs in
           let (x, y) = both (mayEnd f (comes fs r)) (admits v fs r) t in
           let (b, q, d) = block-ends seen v (comes fs r) f g fs gs a us (m .0) x (s ∙ tokens-then (closing f fs) (pieces fs r) (ahead (after v fs r) rs))
-          (follows-more (tokens (pieces fs r)) (ahead (after v fs r) rs) (pieces-sound fs r) (ahead-follows (after v fs r) rs))
+          (follows-more (tokens (pieces fs r)) (ahead (after v fs r) rs) (pieces-lexable fs r) (ahead-follows (after v fs r) rs))
           (heads-comes v fs r (ahead (after v fs r) rs) y) in
           reads-from seen (state v (g ∷ gs)) (state v gs) r (after v fs r) rs a b q (ih b y k d)
 

@@ -1,20 +1,21 @@
 -- The writer's open blocks and the reader's stay matched through a record, and may end and take records alike: all but places is the same.
 use Prim.Native.Nat.{ℕ}
 use mathlib.Core.Path.{_≡_, refl, sym, ap, subst, _∙_}
-use mathlib.Core.Bool.{true, not, false≢true}
+use mathlib.Core.Bool.{true, false≢true}
 use mathlib.Core.List.{List, [], _∷_, _++_}
 use native.Mathlib.Omega.{arith}
 use borrow.Author.Tests.{eqb-true}
 use lib.ListN.{length, length-append, List·getD-append}
 use lib.Seq.{getD-append-seam}
-use Rattle.grammar.specs.Grammar.{Move, stay, enter, named, version, Act, Body, keyed, worded, options, parts, counted}
+use Rattle.grammar.specs.Grammar.{Move, stay, enter, named, version, Body, keyed, worded, options, parts, counted}
 use Rattle.grammar.specs.Table.{body}
-use Rattle.grammar.specs.Engine.{Maybe, none, some, Rec, Frame, empty}
-use Rattle.grammar.specs.Turns.{actFor, labelOf, shift, counting}
+use Rattle.grammar.specs.Engine.{Maybe, none, some, Rec, Frame}
+use Rattle.grammar.specs.Turns.{labelOf, shift, counting}
 use Rattle.render.specs.Plain.{Plain}
-use Rattle.render.specs.Forms.{Form, Close, closeOf}
+use Rattle.render.specs.Forms.{Form}
 use Rattle.render.specs.Lines.{same, settledBy, settled}
-use Rattle.render.specs.Fit.{suits, hasRoom, takes, closes, endsBefore, mayEnd}
+use Rattle.render.specs.Fit.{takes, mayEnd}
+use Rattle.render.proofs.Unmoved.{Same, ends-same, takes-same}
 use Rattle.render.proofs.Stands.{Like}
 use Rattle.render.proofs.Alike.{Owner, Matches, AllMatch, Corresponds}
 
@@ -60,37 +61,14 @@ module _ (seen : List ℕ) (f g : Frame ℕ) (h : Matches seen f g) where
       go (parts k is) = h
       go (counted k is) = h
 
-  closes-match : (c : Maybe Close) (a : Act) → closes f c a ≡ closes g c a
-  closes-match none a = refl
-  closes-match (some c) a = rw (h .label, h .lacks)
-
-  ends-match : (w : ℕ) → endsBefore w f (body (f .block)) ≡ endsBefore w g (body (g .block))
-  ends-match w = go (body (f .block)) ∙ ap (λ b. endsBefore w g (body b)) (h .block)
-    where
-      go : (b : Body) → endsBefore w f b ≡ endsBefore w g b
-      go (keyed n rows) = closes-match (closeOf rows) (actFor n w rows)
-      go (worded rows) = closes-match (closeOf rows) _
-      go (options rows b) = refl
-      go (parts k is) = ap empty (h .lacks)
-      go (counted k is) = ap empty (h .lacks)
-
-  room-match : hasRoom f (body (f .block)) ≡ hasRoom g (body (g .block))
-  room-match = go (body (f .block)) ∙ ap (λ b. hasRoom g (body b)) (h .block)
-    where
-      go : (b : Body) → hasRoom f b ≡ hasRoom g b
-      go (keyed n rows) = refl
-      go (worded rows) = refl
-      go (options rows b) = refl
-      go (parts k is) = refl
-      go (counted k is) = ap (λ l. not (empty l)) (h .lacks)
+  same-but-place : Same f g
+  same-but-place = record { block = h .block; label = h .label; lacks = h .lacks }
 
   pub takes-match : (v : ℕ) (r : Plain) (o : Maybe Form) → takes v f r o ≡ takes v g r o
-  unfolding suits
-  takes-match v r none = refl
-  takes-match v r (some m) = rw (room-match, h .label, h .lacks)
+  takes-match = takes-same f g same-but-place
 
 pub mayEnd-match : (seen : List ℕ) (f g : Frame ℕ) → Matches seen f g → (w : ℕ) → mayEnd f w ≡ mayEnd g w
-mayEnd-match seen f g h = ends-match seen (settled f) (settled g) (settled-match seen f g h)
+mayEnd-match seen f g h = ends-same (settled f) (settled g) (same-but-place seen (settled f) (settled g) (settled-match seen f g h))
 
 -- A RECORD
 

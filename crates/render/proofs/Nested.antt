@@ -1,7 +1,7 @@
 -- The open blocks of a reading start at places of their own, and one that does not end by itself stands in one that does: a turn keeps
 -- this, since it opens a block only where its record stands and only as the table says.
 use Prim.Native.Nat.{ℕ, suc, _≤_, _<_}
-use mathlib.Core.Path.{_≡_, refl}
+use mathlib.Core.Path.{_≡_, refl, sym}
 use mathlib.Core.Bool.{Bool, true, false, _||_}
 use mathlib.Core.Logic.{⊎-elim}
 use mathlib.Core.List.{List, [], _∷_, List·Memᴰ, List·Memᴰ·head, List·Memᴰ·tail, List·Memᴰ·cases-cons, List·Memᴰ·not-nil}
@@ -14,6 +14,7 @@ use Rattle.grammar.specs.Engine.{Maybe, none, some, Rec, Frame}
 use Rattle.grammar.specs.Turns.{shift, become}
 use Rattle.grammar.proofs.Turned.{Open}
 use Rattle.render.specs.Lines.{same}
+use Rattle.render.proofs.Maybe.{none-some, some-eq}
 use Rattle.render.proofs.Stands.{hasLast}
 use Rattle.render.proofs.Opened.{closed, leads, opens, isOptions, options-over}
 
@@ -62,8 +63,8 @@ falls-below [] p q u m = absurd (List·Memᴰ·not-nil m)
 falls-below (f ∷ fs) p q u m = ⊎-elim (head (f .at) u) (λ g. falls-below fs p q (falls-tail p (f .at) fs u) g) (List·Memᴰ·cases-cons m)
   where
     head : (o : Maybe ℕ) → Under p o fs (λ q. Falls fs q) → some q ≡ o → q < p
-    head none u e = absurd (let z : _≡_ {A = ℕ} 0 1 = cc in omega arith)
-    head (some n) u e = let z : q ≡ n = cc in omega arith
+    head none u e = absurd (none-some (sym e))
+    head (some n) u e = let z = some-eq e in omega arith
 
 -- no block around starts where a block does
 pub elsewhere : (f : Frame ℕ) (fs : List (Frame ℕ)) (p : ℕ) → Falls (f ∷ fs) p → (o : Maybe ℕ) → List·Memᴰ o (places fs) → same (f .at) o ≡ false
@@ -106,10 +107,10 @@ closed-last (options rows b) e = clash e
 closed-last (parts k is) e = refl
 closed-last (counted k is) e = refl
 
--- SOUND STATES
+-- NESTED BLOCKS
 
 -- the open blocks where the records qs are still to come
-pub record Sound (fs : List (Frame ℕ)) (qs : List (Rec ℕ)) : Type 0 where
+pub record Nested (fs : List (Frame ℕ)) (qs : List (Rec ℕ)) : Type 0 where
   pub place : ℕ
   pub falls : Falls fs place
   pub climbs : Climbs qs place
@@ -117,19 +118,19 @@ pub record Sound (fs : List (Frame ℕ)) (qs : List (Rec ℕ)) : Type 0 where
 
 module _ (f : Frame ℕ) (fs : List (Frame ℕ)) (qs : List (Rec ℕ)) where
   -- where the innermost block has ended
-  pub sound-around : Sound (f ∷ fs) qs → Sound fs qs
-  sound-around s = record { place = s .place; falls = falls-tail (s .place) (f .at) fs (s .falls); climbs = s .climbs; housed = s .housed .1 }
+  pub nested-around : Nested (f ∷ fs) qs → Nested fs qs
+  nested-around s = record { place = s .place; falls = falls-tail (s .place) (f .at) fs (s .falls); climbs = s .climbs; housed = s .housed .1 }
 
   -- where its options are over
-  pub sound-become : (rows : List Row) (c : Block) → body (f .block) ≡ options rows c → Sound (f ∷ fs) qs → Sound (become c f ∷ fs) qs
-  sound-become rows c e s =
+  pub nested-become : (rows : List Row) (c : Block) → body (f .block) ≡ options rows c → Nested (f ∷ fs) qs → Nested (become c f ∷ fs) qs
+  nested-become rows c e s =
       let z : closed (body (f .block)) ≡ closed (body c) = rw (e, closed-last (body c) (options-over (f .block) c rows e)) in
       record { place = s .place; falls = s .falls; climbs = s .climbs; housed = (rw (← z) (s .housed .0), s .housed .1) }
 
   -- where it has one more record
-  pub sound-shift : (m : Move) (q : Rec ℕ) (label : List ℕ) (v : ℕ) → opens (body (f .block)) m ≡ true → Sound (f ∷ fs) (q ∷ qs)
-      → Sound (shift m (q .kind) (q .at) label (q .x) v f fs .blocks) qs
-  sound-shift m q label v h s = record {
+  pub nested-shift : (m : Move) (q : Rec ℕ) (label : List ℕ) (v : ℕ) → opens (body (f .block)) m ≡ true → Nested (f ∷ fs) (q ∷ qs)
+      → Nested (shift m (q .kind) (q .at) label (q .x) v f fs .blocks) qs
+  nested-shift m q label v h s = record {
     place = suc (q .at);
     falls = shift-falls m (q .kind) (s .place) (q .at) label (q .x) v f fs (s .climbs .0) (s .falls);
     climbs = s .climbs .1;

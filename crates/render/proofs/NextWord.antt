@@ -4,14 +4,12 @@ use Prim.Native.String.{String}
 use mathlib.Core.Path.{_≡_, refl, sym}
 use mathlib.Core.Bool.{Bool, true, false, cond, not, _&&_, _||_, false≢true}
 use mathlib.Core.List.{List, [], _∷_, _++_}
-use native.Mathlib.Omega.{arith}
 use borrow.Author.Tests.{eqb-true}
 use lib.Dec.{eqb}
 use lib.ListN.{length}
 use Rattle.lexer.specs.Kinds as Kind
 use Rattle.word.specs.Words.{keys, values, words, raised, upper, same, firstWhere, wordOf, word, isKey}
-use Rattle.word.proofs.Words.{both}
-use Rattle.grammar.specs.Grammar.{Block, refuse, Row, Body, keyed, worded, options, parts, counted}
+use Rattle.grammar.specs.Grammar.{Block, Act, refuse, Row, Body, keyed, worded, options, parts, counted}
 use Rattle.grammar.specs.Table.{body}
 use Rattle.grammar.specs.Engine.{Maybe, none, some, Frame}
 use Rattle.grammar.specs.Turns.{actFor}
@@ -20,9 +18,11 @@ use Rattle.render.specs.Pieces.{Said, tokens}
 use Rattle.render.specs.Spelt.{all}
 use Rattle.render.specs.Plain.{Plain}
 use Rattle.render.specs.Says.{saysAll}
-use Rattle.render.specs.Forms.{Form, Close, formsOf, rowForms, formsIn, isOf, formFor, begins, saidIn, closeOf, lastWords}
+use Rattle.render.specs.Forms.{Form, Close, formsOf, rowForms, formsIn, begins, saidIn, closeOf, lastWords}
 use Rattle.render.specs.Lines.{owns, formIn, settledBy, settling, closing, endAll, taking, before, statement, pieces}
 use Rattle.render.specs.Fit.{takes, isBack, closes, endsBefore, mayEnd, closeWord, lastWord, firstWord, beginWord, comes, ends, admits}
+use Rattle.render.proofs.Tested.{or-left}
+use Rattle.render.proofs.Forms.{form-passes, act-passes}
 use Rattle.render.proofs.Stands.{isSome, hasLast}
 use Rattle.render.proofs.LineTokens.{tokens-then, tokens-ending, tokens-statement}
 
@@ -44,9 +44,12 @@ back-key w e = go (eqb w (word "LAYER")) (eqb w (word "END")) refl refl e
     go false true p q e = rw (eqb-true w (word "END") q)
     go false false p q e = absurd (false≢true e)
 
-unfoldable backRows : List Row → Bool
-backRows [] = true
-backRows (w ∷ ws) = (not (isBack (w .act)) || isBackWord (word (w .begin))) && backRows ws
+-- the row of such a word alone gives what is ahead back
+abbrev backBy : ℕ → Act → Bool
+backBy w act = not (isBack act) || isBackWord w
+
+abbrev backRows : List Row → Bool
+backRows rows = all (λ w. backBy (word (w .begin)) (w .act)) rows
 
 abbrev backBody : Body → Bool
 backBody (keyed n rows) = backRows rows
@@ -56,24 +59,11 @@ backBody (parts k is) = true
 backBody (counted k is) = true
 
 backs-pass : (b : Block) → backBody (body b) ≡ true
-unfolding backRows isBackWord keys values words raised upper same firstWhere wordOf
+unfolding all isBackWord keys values words raised upper same firstWhere wordOf
 backs-pass = at-block backBody refl
 
 act-back : (n w : ℕ) (rows : List Row) → backRows rows ≡ true → isBack (actFor n w rows) ≡ true → isBackWord w ≡ true
-unfolding backRows actFor
-act-back n w [] t e = absurd (false≢true e)
-act-back n w (u ∷ us) t e =
-    let (p, q) = both (not (isBack (u .act)) || isBackWord (word (u .begin))) (backRows us) t in
-    go (eqb (word (u .begin)) w) refl e p (act-back n w us q)
-  where
-    here : (b : Bool) → b ≡ true → (not b || isBackWord (word (u .begin))) ≡ true → isBackWord (word (u .begin)) ≡ true
-    here true e p = p
-    here false e p = absurd (false≢true e)
-
-    go : (c : Bool) → eqb (word (u .begin)) w ≡ c → isBack (cond c (u .act) (actFor n w us)) ≡ true
-        → (not (isBack (u .act)) || isBackWord (word (u .begin))) ≡ true → (isBack (actFor n w us) ≡ true → isBackWord w ≡ true) → isBackWord w ≡ true
-    go true c e p ih = rw (eqb-true (word (u .begin)) w c) at (here (isBack (u .act)) e p)
-    go false c e p ih = ih e
+act-back n w rows t e = or-left (isBack (actFor n w rows)) e (act-passes backBy n w rows refl t)
 
 pub before-word : (w : ℕ) (f : Frame ℕ) → hasLast (body (f .block)) ≡ false → endsBefore w f (body (f .block)) ≡ true → isBackWord w ≡ true
 before-word w f = in-body (body (f .block)) (backs-pass (f .block))
@@ -124,23 +114,6 @@ heads-closing f fs us h = go (body (f .block)) refl h
     go (options rows b) e h = absurd (back-not-zero h)
     go (parts k is) e h = absurd (back-not-zero h)
     go (counted k is) e h = absurd (back-not-zero h)
-
--- FORMS
-
-pub some-not-none : {A : Type 0} {a : A} → some a ≡ none → ⊥
-some-not-none e = let z : _≡_ {A = ℕ} 0 1 = cc in omega arith
-
--- what every form of a block passes, the form that a record has in it passes
-pub form-passes : (p : Form → Bool) (r : Plain) (ms : List Form) (m : Form) → all p ms ≡ true → formFor r ms ≡ some m → p m ≡ true
-unfolding formFor all
-form-passes p r [] m t e = absurd (some-not-none (sym e))
-form-passes p r (n ∷ ms) m t e =
-    let (h, k) = both (p n) (all p ms) t in
-    go (isOf r n) e h (form-passes p r ms m k)
-  where
-    go : (c : Bool) → cond c (some n) (formFor r ms) ≡ some m → p n ≡ true → (formFor r ms ≡ some m → p m ≡ true) → p m ≡ true
-    go true e h ih = let q : n ≡ m = cc in rw q at h
-    go false e h ih = ih e
 
 -- after options no record begins with such a word
 abbrev isOther : Form → Bool

@@ -9,13 +9,13 @@ use lib.Dec.{leb, eqb}
 use lib.ListN.{length}
 use Rattle.lexer.specs.Bytes.{isDigit, isAscii, inNumber}
 use Rattle.lexer.specs.Kinds as Kind
-use Rattle.lexer.proofs.Runs.{both}
 use Rattle.numeral.specs.Numeral.{digit, allDigits}
 use Rattle.numeral.specs.Shortest.{natural, fraction, pointed, belowNought, shortest}
 use Rattle.numeral.proofs.Round.{natural-digits, natural-some, fraction-digits}
+use Rattle.word.proofs.Words.{both}
 use Rattle.render.specs.Pieces.{said}
 use Rattle.render.specs.Spelt.{all, isNumber, isToken, isSpelt}
-use Rattle.render.proofs.Bytes.{all-append}
+use Rattle.render.proofs.All.{all-append}
 
 -- ---- what numbers are made of is no byte above 127
 -- a digit, or one other byte

@@ -1,10 +1,9 @@
 -- What the table says of the blocks that a statement opens and of a block after its options, by one computation over all blocks.
 use Prim.Native.Nat.{ℕ}
 use mathlib.Core.Path.{_≡_, refl, subst}
-use mathlib.Core.Bool.{Bool, true, false, cond, not, _&&_, _||_}
-use mathlib.Core.List.{List, [], _∷_}
-use native.Mathlib.Omega.{arith}
-use borrow.Author.Tests.{eqb-true, not-true}
+use mathlib.Core.Bool.{Bool, true, false, not, _&&_, _||_}
+use mathlib.Core.List.{List}
+use borrow.Author.Tests.{not-true}
 use lib.Dec.{eqb}
 use Rattle.word.proofs.Words.{both}
 use Rattle.grammar.specs.Grammar.{Block, Move, stay, enter, named, version, Row, Body, keyed, worded, options, parts, counted}
@@ -13,30 +12,10 @@ use Rattle.grammar.specs.Engine.{none, some, Frame}
 use Rattle.grammar.proofs.Blocks.{at-block}
 use Rattle.render.specs.Spelt.{all}
 use Rattle.render.specs.Plain.{Plain}
-use Rattle.render.specs.Forms.{Form, formsOf, rowForms, formsIn, ofCode, isOf, formFor, closeOf}
+use Rattle.render.specs.Forms.{Form, formsOf, rowForms, formsIn, formFor, closeOf}
 use Rattle.render.specs.Lines.{formIn}
+use Rattle.render.proofs.Forms.{form-passes, form-kind, no-form}
 use Rattle.render.proofs.Stands.{isSome, hasLast}
-
--- FORMS
-
-module _ (r : Plain) where
-  -- the form of a record passes what all forms pass, and is of the record's kind
-  form-passes : (p : Form → Bool) (m : Form) (ms : List Form) → formFor r ms ≡ some m → all p ms ≡ true → (p m ≡ true) × (m .kind ≡ r .kind)
-  unfolding formFor isOf all
-  form-passes p m [] e h = absurd (let z : _≡_ {A = ℕ} 0 1 = cc in omega arith)
-  form-passes p m (n ∷ ms) e h = let t = both (p n) (all p ms) h in go (isOf r n) refl e (t .0) (λ q. form-passes p m ms q (t .1))
-    where
-      go : (c : Bool) → isOf r n ≡ c → cond c (some n) (formFor r ms) ≡ some m → p n ≡ true → (formFor r ms ≡ some m → (p m ≡ true) × (m .kind ≡ r .kind)) → (p m ≡ true) × (m .kind ≡ r .kind)
-      go true q e t f = let z : n ≡ m = cc in rw (← z) (t, eqb-true (n .kind) (r .kind) (both (eqb (n .kind) (r .kind)) (ofCode (n .items) (r .code)) q .0))
-      go false q e t f = f e
-
-  -- a record of a kind that no form has has none of them
-  no-form : (ms : List Form) → all (λ m. not (eqb (m .kind) (r .kind))) ms ≡ true → formFor r ms ≡ none
-  unfolding formFor isOf all
-  no-form [] h = refl
-  no-form (m ∷ ms) h =
-      let t = both (not (eqb (m .kind) (r .kind))) (all (λ m. not (eqb (m .kind) (r .kind))) ms) h in
-      rw (not-true (eqb (m .kind) (r .kind)) (t .0)) (no-form ms (t .1))
 
 -- THE TABLE
 
@@ -88,7 +67,7 @@ settles-everywhere = at-block settles refl
 
 -- what the statement of a record opens
 pub well-opened : (f : Frame ℕ) (r : Plain) (m : Form) → formIn f r ≡ some m → opens (body (f .block)) (m .move) ≡ true
-well-opened f r m e = form-passes r (λ m. opens (body (f .block)) (m .move)) m (formsIn (body (f .block))) e (opens-everywhere (f .block)) .0
+well-opened f r m e = form-passes (λ m. opens (body (f .block)) (m .move)) r (formsIn (body (f .block))) m (opens-everywhere (f .block)) e
 
 module _ (b c : Block) (rows : List Row) (e : body b ≡ options rows c) where
   over : (not (isOptions (body c)) ≡ true) × (all (λ n. all (λ m. not (eqb (m .kind) (n .kind))) (formsIn (options rows c))) (formsIn (body c)) ≡ true)
@@ -101,5 +80,5 @@ module _ (b c : Block) (rows : List Row) (e : body b ≡ options rows c) where
   -- a record of the block after its options is none of them
   pub no-option : (r : Plain) (m : Form) → formFor r (formsIn (body c)) ≡ some m → formFor r (formsIn (body b)) ≡ none
   no-option r m h =
-      let p = form-passes r (λ n. all (λ m. not (eqb (m .kind) (n .kind))) (formsIn (options rows c))) m (formsIn (body c)) h (over .1) in
-      rw e (no-form r (formsIn (options rows c)) (rw (p .1) at (p .0)))
+      let p = form-passes (λ n. all (λ m. not (eqb (m .kind) (n .kind))) (formsIn (options rows c))) r (formsIn (body c)) m (over .1) h in
+      rw e (no-form r (formsIn (options rows c)) (rw (form-kind r (formsIn (body c)) m h) at p))

@@ -20,8 +20,10 @@ use Rattle.grammar.proofs.Places.{places-rise}
 use Rattle.render.specs.Forms.{closeOf}
 use Rattle.render.specs.Fit.{fitFrom}
 use Rattle.render.proofs.Ascii.{clear-ascii}
-use Rattle.render.proofs.Found.{NameSpelt, StringSpelt, tokens-spelt, string-spelt}
+use Rattle.render.proofs.TokensSpelt.{NameSpelt, StringSpelt, tokens-spelt, string-spelt}
 use Rattle.render.proofs.Stands.{Good, plainRec}
+use Rattle.render.proofs.Bared.{told-turns}
+use Rattle.render.proofs.Turns.{not-stopped}
 use Rattle.render.proofs.Nested.{Climbs}
 use Rattle.render.proofs.ListsRead.{list-read}
 
@@ -56,15 +58,11 @@ unfolding readAhead
 begun a qs e = go (eqb (a .held .kind) bad) e
   where
     go : (c : Bool) → cond c (stopped 3 (a .held .mark)) (readOn start a) ≡ read qs → readOn start a ≡ read qs
-    go true e = absurd (let z : _≡_ {A = ℕ} 0 1 = cc in omega arith)
+    go true e = absurd (not-stopped e)
     go false e = e
-
-told : (s : List ℕ) (qs : List (Rec ℕ)) → readAhead (ahead s (from s 0 1)) ≡ read qs → screened s ≡ Clear → reading s ≡ records (map filed qs)
-unfolding reading
-told s qs e c = rw (c, reading, e)
 
 -- WHAT A TEXT READS AS FITS
 pub reading-fits : (s : List ℕ) (qs : List (Rec ℕ)) → readAhead (ahead s (from s 0 1)) ≡ read qs → screened s ≡ Clear → fitFrom start (map plainRec qs) ≡ true
 unfolding closeOf
 reading-fits s qs e c = list-read start (ahead s (from s 0 1)) qs (begun (ahead s (from s 0 1)) qs e) (tokens-good s c)
-    (record { place = 0; falls = refl; climbs = records-climb qs (places-rise s (map filed qs) (told s qs e c)); housed = (refl, tt) })
+    (record { place = 0; falls = refl; climbs = records-climb qs (places-rise s (map filed qs) (told-turns s qs c e)); housed = (refl, tt) })

@@ -6,15 +6,15 @@ use mathlib.Core.Bool.{Bool, true, false, cond}
 use mathlib.Core.List.{List, [], _∷_, _++_, map}
 use lib.Dec.{eqb}
 use lib.ListN.{length, length-map}
-use Rattle.grammar.specs.Grammar.{Act, refuse, Move, stay, enter, named, version, Body, keyed, worded, options, parts, counted}
+use Rattle.grammar.specs.Grammar.{Move, stay, enter, named, version, Body, keyed, worded, options, parts, counted}
 use Rattle.grammar.specs.Table.{body}
 use Rattle.grammar.specs.Engine.{Maybe, none, some, Frame}
-use Rattle.grammar.specs.Turns.{State, state, actFor, shift}
-use Rattle.grammar.specs.Reading.{start}
+use Rattle.grammar.specs.Turns.{State, state, shift}
 use Rattle.render.specs.Plain.{Plain, renamed, renamedOwner}
-use Rattle.render.specs.Forms.{Form, Close, closeOf, formsIn}
+use Rattle.render.specs.Forms.{Form, formsIn}
 use Rattle.render.specs.Lines.{same, owns, formIn, settledBy, settled, settling, ending, closing, endAll, takenBy, taking, before, goesOn, statement, entered, pieces, after, lines}
-use Rattle.render.specs.Fit.{emptied, suits, takes, hasRoom, closes, endsBefore, mayEnd, beginWord, comes, ends, admits, allEnd, fitFrom}
+use Rattle.render.specs.Fit.{emptied, suits, takes, mayEnd, beginWord, comes, ends, admits, allEnd, fitFrom}
+use Rattle.render.proofs.Unmoved.{Same, ends-same, room-same}
 use Rattle.render.proofs.Unplaced.{holds-alike, gives-alike, form-alike, said-alike}
 
 abbrev renamedFrame : (ℕ → ℕ) → Frame ℕ → Frame ℕ
@@ -22,10 +22,6 @@ renamedFrame ρ f = record { block = f .block; at = renamedOwner ρ (f .at); lab
 
 abbrev pub renamedState : (ℕ → ℕ) → State ℕ → State ℕ
 renamedState ρ s = state (s .version) (map (renamedFrame ρ) (s .blocks))
-
--- the library has no place
-pub start-renamed : (ρ : ℕ → ℕ) → renamedState ρ start ≡ start
-start-renamed ρ = refl
 
 module _ (ρ : ℕ → ℕ) where
   -- ONE BLOCK
@@ -40,19 +36,11 @@ module _ (ρ : ℕ → ℕ) where
       go (parts k is) = refl
       go (counted k is) = refl
 
-  closes-renamed : (f : Frame ℕ) (c : Maybe Close) (a : Act) → closes (renamedFrame ρ f) c a ≡ closes f c a
-  closes-renamed f none a = refl
-  closes-renamed f (some c) a = refl
-
-  ends-renamed : (w : ℕ) (f : Frame ℕ) (d : Body) → endsBefore w (renamedFrame ρ f) d ≡ endsBefore w f d
-  ends-renamed w f (keyed n rows) = closes-renamed f (closeOf rows) (actFor n w rows)
-  ends-renamed w f (worded rows) = closes-renamed f (closeOf rows) (refuse 0)
-  ends-renamed w f (options rows b) = refl
-  ends-renamed w f (parts k is) = refl
-  ends-renamed w f (counted k is) = refl
+  but-place : (f : Frame ℕ) → Same (renamedFrame ρ f) f
+  but-place f = record { block = refl; label = refl; lacks = refl }
 
   may-end-renamed : (f : Frame ℕ) (w : ℕ) → mayEnd (renamedFrame ρ f) w ≡ mayEnd f w
-  may-end-renamed f w = rw (settled-renamed f) (ends-renamed w (settled f) (body (settled f .block)))
+  may-end-renamed f w = rw (settled-renamed f) (ends-same (renamedFrame ρ (settled f)) (settled f) (but-place (settled f)) w)
 
   closing-renamed : (f : Frame ℕ) (fs : List (Frame ℕ)) → closing (renamedFrame ρ f) (map (renamedFrame ρ) fs) ≡ closing f fs
   closing-renamed f fs = rw (settled-renamed f, length-map fs (renamedFrame ρ)) (ap (λ l. settling (body (f .block)) ++ l) (go (body (settled f .block))))
@@ -65,13 +53,6 @@ module _ (ρ : ℕ → ℕ) where
       go (counted k is) = refl
 
   -- A RECORD IN A BLOCK
-
-  room-renamed : (f : Frame ℕ) (d : Body) → hasRoom (renamedFrame ρ f) d ≡ hasRoom f d
-  room-renamed f (keyed n rows) = refl
-  room-renamed f (worded rows) = refl
-  room-renamed f (options rows b) = refl
-  room-renamed f (parts k is) = refl
-  room-renamed f (counted k is) = refl
 
   goes-on-renamed : (f : Frame ℕ) (m : Move) → goesOn (renamedFrame ρ f) m ≡ goesOn f m
   goes-on-renamed f stay = refl
@@ -103,7 +84,7 @@ module _ (ρ : ℕ → ℕ) where
     takes-renamed : (v : ℕ) (f : Frame ℕ) (o : Maybe Form) → takes v (renamedFrame ρ f) (renamed ρ r) o ≡ takes v f r o
     unfolding suits
     takes-renamed v f none = refl
-    takes-renamed v f (some m) = rw (room-renamed f (body (f .block)), holds-alike ρ r 0 (f .label) (f .lacks) (m .items), gives-alike ρ r 0 (m .items) (emptied r))
+    takes-renamed v f (some m) = rw (room-same (renamedFrame ρ f) f (but-place f), holds-alike ρ r 0 (f .label) (f .lacks) (m .items), gives-alike ρ r 0 (m .items) (emptied r))
 
     entered-renamed : (v : ℕ) (f : Frame ℕ) (fs : List (Frame ℕ)) (o : Maybe Form) → entered v (renamedFrame ρ f) (map (renamedFrame ρ) fs) (renamed ρ r) o ≡ renamedState ρ (entered v f fs r o)
     entered-renamed v f fs none = refl

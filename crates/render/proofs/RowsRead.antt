@@ -15,7 +15,6 @@ use Rattle.grammar.specs.Turns.{Step, gives, ends, goes, backs, halts, given, e
 use Rattle.grammar.specs.Reading.{Mark}
 use Rattle.grammar.proofs.Answers.{Ok}
 use Rattle.grammar.proofs.Kept.{Suf, there, all, Taken}
-use Rattle.render.specs.Spelt as Spelt
 use Rattle.render.specs.Forms.{Form, form, formsOf, rowForms, Close, closeOf}
 use Rattle.render.specs.Fit.{isBack, firstWord}
 use Rattle.render.proofs.Stands.{isSome}
@@ -75,18 +74,6 @@ close-later begin (close is) rows c s e = absurd (no-last rows c (not-true _ s) 
 close-later begin (refuse n) rows c s e = e
 close-later begin back rows c s e = e
 close-later begin (upTo54 act) rows c s e = e
-
--- a test that every row and a refusal pass
-pub acts-pass : (t : Act → Bool) (n k : ℕ) (rows : List Row) → t (refuse n) ≡ true → Spelt.all (λ w. t (w .act)) rows ≡ true → t (actFor n k rows) ≡ true
-unfolding actFor Spelt.all
-acts-pass t n k [] r e = r
-acts-pass t n k (w ∷ ws) r e =
-    let (p, q) = both (t (w .act)) (Spelt.all (λ w. t (w .act)) ws) e in
-    go (eqb (word (w .begin)) k) p (acts-pass t n k ws r q)
-  where
-    go : (c : Bool) → t (w .act) ≡ true → t (actFor n k ws) ≡ true → t (cond c (w .act) (actFor n k ws)) ≡ true
-    go true p q = p
-    go false p q = q
 
 -- WHAT AN ACT MAKES OF WHAT IS AHEAD
 

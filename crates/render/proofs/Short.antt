@@ -9,11 +9,11 @@ use borrow.Author.Tests.{leb-true}
 use lib.Dec.{leb}
 use lib.ListN.{length, drop, length-take, length-drop, length-map}
 use Rattle.text.specs.Text.{bytes}
+use Rattle.record.specs.declared.Record.{Record}
 use Rattle.lexer.specs.Kinds as Kind
 use Rattle.lexer.specs.Screen.{limit}
 use Rattle.lexer.proofs.Cleared.{clear-short}
-use Rattle.lexer.proofs.Runs.{both}
-use Rattle.record.specs.declared.Record.{Record}
+use Rattle.word.proofs.Words.{both}
 use Rattle.grammar.specs.Grammar.{Block, Move, stay, enter, named, version, Body, keyed, worded, options, parts, counted}
 use Rattle.grammar.specs.Table.{body}
 use Rattle.grammar.specs.Engine.{Maybe, none, some, Frame}
@@ -26,8 +26,10 @@ use Rattle.render.specs.Pieces.{Said, said, Piece, newline, text}
 use Rattle.render.specs.Spelt.{all}
 use Rattle.render.specs.Plain.{Plain, bare}
 use Rattle.render.specs.Says.{saysAll}
-use Rattle.render.specs.Forms.{Form, formsOf, rowForms, formsIn, isOf, formFor, begins, saidIn, Close, closeOf, nobody, lastWords}
-use Rattle.render.specs.Lines.{spaced, indented, onLine, owns, formIn, settledBy, settled, settling, ending, closing, endAll, takenBy, taking, before, goesOn, statement, entered, pieces, after, lines}
+use Rattle.render.specs.Forms.{Form, formsOf, rowForms, formsIn, begins, saidIn, Close, closeOf, nobody, lastWords}
+use Rattle.render.specs.Lines.{spaced, indented, onLine, owns, formIn, settled, settling, ending, closing, endAll, takenBy, taking, before, goesOn, statement, entered, pieces, after, lines}
+use Rattle.render.proofs.Forms.{Found, form-found}
+use Rattle.render.proofs.Settled.{by-settled, by-settling}
 use Rattle.render.proofs.Bared.{from-turns}
 use Rattle.render.proofs.Widths.{size, size-append, size-none, size-break, width, width-none, width-more, width-append, size-indented, size-line, size-end, cost, costs, Named, Labelled, items-short}
 
@@ -58,23 +60,8 @@ unfolding all formsIn rowForms formsOf begins closeOf text spaced cost costs for
 table = at-block lowBody refl
 
 -- a form that is found is not long
-abbrev Low : Maybe Form → Type 0
-Low none = Unit {0}
-Low (some m) = formCost m ≤ 2 ^ 30
-
-form-low : (r : Plain) (ms : List Form) → all lowForm ms ≡ true → Low (formFor r ms)
-unfolding all formFor
-form-low r [] e = tt
-form-low r (m ∷ ms) e =
-    let (p, q) = both (lowForm m) (all lowForm ms) e in
-    go (isOf r m) (leb-true (formCost m) (2 ^ 30) p) (form-low r ms q)
-  where
-    go : (t : Bool) → Low (some m) → Low (formFor r ms) → Low (cond t (some m) (formFor r ms))
-    go true p ih = p
-    go false p ih = ih
-
-found-low : (f : Frame ℕ) (r : Plain) → Low (formIn f r)
-found-low f r = let b = body (f .block) in form-low r (formsIn b) (both (all lowForm (formsIn b)) (leb (endCost b) (2 ^ 30)) (table (f .block)) .0)
+found-low : (f : Frame ℕ) (r : Plain) → Found lowForm r (formIn f r)
+found-low f r = let b = body (f .block) in form-found lowForm r (formsIn b) (both (all lowForm (formsIn b)) (leb (endCost b) (2 ^ 30)) (table (f .block)) .0)
 
 end-low : (f : Frame ℕ) → endCost (body (f .block)) ≤ 2 ^ 30
 end-low f = let b = body (f .block) in leb-true (endCost b) (2 ^ 30) (both (all lowForm (formsIn b)) (leb (endCost b) (2 ^ 30)) (table (f .block)) .1)
@@ -82,11 +69,7 @@ end-low f = let b = body (f .block) in leb-true (endCost b) (2 ^ 30) (both (all 
 -- BLOCKS
 
 settling-short : (b : Body) → size (settling b) ≤ 3
-settling-short (keyed n rows) = omega (arith, size-none)
-settling-short (worded rows) = omega (arith, size-none)
-settling-short (options rows b) = omega (arith, size-end)
-settling-short (parts k is) = omega (arith, size-none)
-settling-short (counted k is) = omega (arith, size-none)
+settling-short = by-settling (λ ps. size ps ≤ 3) (omega (arith, size-none)) (omega (arith, size-end))
 
 last-short : (f : Frame ℕ) (c : Maybe Close) → Labelled f → width (lastWords (f .label) c) ≤ closeCost c
 unfolding lastWords closeCost
@@ -136,12 +119,12 @@ form-short : (f : Frame ℕ) (r : Plain) (m : Form) → Labelled f → Named r �
 unfolding saidIn formCost
 form-short f r m l n = omega (arith, width-append (begins (m .begin)) (saysAll 0 (f .label) (m .items) r), items-short (f .label) r l n 0 (m .items))
 
-statement-short : (depth : ℕ) (f : Frame ℕ) (r : Plain) (o : Maybe Form) → Labelled f → Named r → Low o → size (statement depth f r o) ≤ 2 ^ 30 + 2 * depth + 1
+statement-short : (depth : ℕ) (f : Frame ℕ) (r : Plain) (o : Maybe Form) → Labelled f → Named r → Found lowForm r o → size (statement depth f r o) ≤ 2 ^ 30 + 2 * depth + 1
 statement-short depth f r none l n h = omega (arith, size-none)
 statement-short depth f r (some m) l n h =
     let begun = onLine (body (f .block)) in
     let goes = goesOn f (m .move) in
-    omega (arith, size-append (cond begun (spaced ts) (indented depth ts)) (cond goes [] (newline ∷ [])), begin begun, form-short f r m l n, end goes)
+    omega (arith, size-append (cond begun (spaced ts) (indented depth ts)) (cond goes [] (newline ∷ [])), begin begun, form-short f r m l n, leb-true (formCost m) (2 ^ 30) (h .0), end goes)
   where
     ts : List Said
     ts = saidIn (f .label) m r
@@ -158,16 +141,8 @@ before-short : (f : Frame ℕ) (o : Maybe Form) → size (before f o) ≤ 3
 before-short f none = settling-short (body (f .block))
 before-short f (some m) = omega (arith, size-none)
 
--- a block has its name still after its options
-settled-label : (f : Frame ℕ) (b : Body) → Labelled f → Labelled (settledBy f b)
-settled-label f (keyed n rows) l = l
-settled-label f (worded rows) l = l
-settled-label f (options rows b) l = l
-settled-label f (parts k is) l = l
-settled-label f (counted k is) l = l
-
 taken-label : (f : Frame ℕ) (o : Maybe Form) → Labelled f → Labelled (takenBy f o)
-taken-label f none l = settled-label f (body (f .block)) l
+taken-label f none l = by-settled Labelled f l (λ c. l) (body (f .block))
 taken-label f (some m) l = l
 
 -- at most one block more is open, and none has a long name

@@ -21,7 +21,7 @@ use Rattle.render.specs.Says.{semicolon}
 use Rattle.render.specs.Forms.{Form, Close, saidIn, closeOf, lastWords}
 use Rattle.render.specs.Lines.{onLine, formIn}
 use Rattle.render.specs.Fit.{takes, endsBefore, lastWord, beginWord}
-use Rattle.render.proofs.Found.{NameSpelt, StringSpelt}
+use Rattle.render.proofs.TokensSpelt.{NameSpelt, StringSpelt}
 
 -- WHAT STANDS AHEAD
 

@@ -20,13 +20,15 @@ use Rattle.grammar.specs.Reading.{Mark}
 use Rattle.render.specs.Pieces.{Said, said}
 use Rattle.render.specs.Plain.{Plain}
 use Rattle.render.specs.Says.{semicolon, says, saysAll, holdsAll, givesAll}
-use Rattle.render.specs.Forms.{Form, form, rowForms, formsIn, ofCode, isOf, formFor, begins, saidIn}
+use Rattle.render.specs.Forms.{Form, form, rowForms, formsIn, formFor, begins, saidIn}
 use Rattle.render.specs.Fit.{emptied, alike, suits, hasRoom}
+use Rattle.render.proofs.Forms.{form-kind, form-only}
 use Rattle.render.proofs.Stands.{standing, Like, endsNoName, follows, StatementBack}
-use Rattle.render.proofs.Takers.{headed, starts, held-kind, held-bytes, Back, back-then, take-back, expect-back}
-use Rattle.render.proofs.Sound.{leads, noSemi, noWord, sound, led, says-start}
+use Rattle.render.proofs.TakersBack.{headed, starts, held-kind, held-bytes, Back, back-then, take-back, expect-back}
+use Rattle.render.proofs.LineTokens.{says-start}
+use Rattle.render.proofs.Legible.{leads, noSemi, noWord, legible, led}
 use Rattle.render.proofs.ItemsBack.{Same, held-first, items-back}
-use Rattle.render.proofs.Rows.{nothing, one, sound-rows, sound-body, all-sound, Begun, Of, of-begin, of-old, of-sound, form-of, stated}
+use Rattle.render.proofs.RowsBack.{legible-rows, legible-body, all-legible, Begun, Of, of-begin, of-old, of-legible, stated}
 
 -- WHAT FOLLOWS
 
@@ -69,7 +71,7 @@ module _ (v : ℕ) (f : Frame ℕ) (a : Ahead ℕ Mark) where
     judged-row (ok u b) h = (b .held .mark, rw (h .0, begun .acts 5))
     judged-row (refused n p) h = absurd h
 
-  module _ (r : Plain) (m : Form) (us : List Said) (fit : suits f m r ≡ true) (k : m .kind ≡ r .kind) (s : sound (m .kind) 0 false false (m .items) ≡ true) (g : follows (m .items) us ≡ true) where
+  module _ (r : Plain) (m : Form) (us : List Said) (fit : suits f m r ≡ true) (k : m .kind ≡ r .kind) (s : legible (m .kind) 0 false false (m .items) ≡ true) (g : follows (m .items) us ≡ true) where
     abbrev Read : Draft ℕ → Type 0
     Read d = Same (r .kind) (a .held .at) (f .at) d (givesAll 0 (m .items) r (emptied r))
 
@@ -118,15 +120,6 @@ module _ (v : ℕ) (f : Frame ℕ) (a : Ahead ℕ Mark) where
     part-gives true u e y z = absurd (false≢true (sym e))
     part-gives false u e y z = rw (← y) (gave (items 0 f (m .items) (blank (m .kind) f a) a) (read a z))
 
--- the form of a list of one
-only : (r : Plain) (g m : Form) → formFor r (g ∷ []) ≡ some m → m ≡ g
-unfolding formFor
-only r g m e = go (isOf r g) e
-  where
-    go : (t : Bool) → cond t (some g) none ≡ some m → m ≡ g
-    go true e = sym (one g m e)
-    go false e = absurd (nothing m e)
-
 module _ (v : ℕ) (f : Frame ℕ) (r : Plain) (m : Form) (a : Ahead ℕ Mark) (us : List Said) (fit : suits f m r ≡ true) (g : follows (m .items) us ≡ true)
     (old : not (m .old) || leb v 5400000 ≡ true) (z : standing a ≡ saidIn (f .label) m r ++ us) where
   abbrev Given : Body → Type 0
@@ -144,56 +137,52 @@ module _ (v : ℕ) (f : Frame ℕ) (r : Plain) (m : Form) (a : Ahead ℕ Mark) (
   unfolding saidIn begins
   at-once e = rw e at z
 
-  kind-of : (fs : List Form) → formFor r fs ≡ some m → m .kind ≡ r .kind
-  unfolding isOf
-  kind-of fs e = eqb-true (m .kind) (r .kind) (both (eqb (m .kind) (r .kind)) (ofCode (m .items) (r .code)) (form-of r m fs e) .0)
-
   rest-start : starts rest ≡ true
   rest-start = says-start (f .label) r us (follows-start (m .items) us g) 0 (m .items)
 
   -- in rows whose word is taken before it is looked at
-  judged-gives : (rows : List Row) → sound-rows false rows ≡ true → formFor r (rowForms rows) ≡ some m → Gives f a r us (m .move) (judged v f a rows (get-name a))
+  judged-gives : (rows : List Row) → legible-rows false rows ≡ true → formFor r (rowForms rows) ≡ some m → Gives f a r us (m .move) (judged v f a rows (get-name a))
   judged-gives rows s e =
       let (w, act, b, o) = stated r m false rows s e in
       let y = after-word w (of-begin w false act m o) in
       let n = expect-back a (said Kind.name (bytes w)) rest y rest-start Kind.name refl in
       let (p, q) = judged-row v f a false rows w act b rest (get-name a) n in
       rw q
-      (worded-gives v f a r m us fit (kind-of (rowForms rows) e) (of-sound w false act m o (b .sound)) g (λ u. u .bytes ≡ bytes w) (get-name a) p w act n o old)
+      (worded-gives v f a r m us fit (form-kind r (rowForms rows) m e) (of-legible w false act m o (b .legible)) g (λ u. u .bytes ≡ bytes w) (get-name a) p w act n o old)
 
   not-semi : (w : String) → m .begin ≡ w ∷ [] → matches Kind.semicolon a ≡ false
   not-semi w e = rw (held-kind a (said Kind.name (bytes w)) rest (after-word w e))
 
-  body-gives : (b : Body) → sound-body b ≡ true → formFor r (formsIn b) ≡ some m → hasRoom f b ≡ true → Given b
-  unfolding sound-body formsIn step
+  body-gives : (b : Body) → legible-body b ≡ true → formFor r (formsIn b) ≡ some m → hasRoom f b ≡ true → Given b
+  unfolding legible-body formsIn step
   body-gives (keyed n rows) s e h =
       let (w, act, b, o) = stated r m true rows s e in
       let y = after-word w (of-begin w false act m o) in
       rw (keyed-row v f a true rows w act b rest n refl y)
-      (worded-gives v f a r m us fit (kind-of (rowForms rows) e) (of-sound w false act m o (b .sound)) g (λ u. u ≡ a .held) (take a) (a .held .mark) w act
+      (worded-gives v f a r m us fit (form-kind r (rowForms rows) m e) (of-legible w false act m o (b .legible)) g (λ u. u ≡ a .held) (take a) (a .held .mark) w act
       (take-back a (said Kind.name (bytes w)) rest y rest-start) o old)
   body-gives (worded rows) s e h = judged-gives rows s e
   body-gives (options rows c) s e h =
       let (w, act, b, o) = stated r m false rows s e in
       rw (not-semi w (of-begin w false act m o)) (judged-gives rows s e)
   body-gives (parts k is) s e h =
-      let q = only r (form k [] is stay false) m e in
+      let q = form-only r (form k [] is stay false) m e in
       let i : m .items ≡ is = rw q in
       let l : m .kind ≡ k = rw q in
       let y = at-once (rw q) in
-      let (n, o) = both (leads noSemi 0 is) (sound k 0 false false is) s in
+      let (n, o) = both (leads noSemi 0 is) (legible k 0 false false is) s in
       rw (← i, ← l)
-      (part-gives v f a r m us fit (kind-of (formsIn (parts k is)) e) (rw (i, l) o) g (matches Kind.semicolon a) _ (not-true _ (held-first noSemi a rest y (led (f .label) r us noSemi 0 (m .items) (rw i n)))) (rw q) y)
+      (part-gives v f a r m us fit (form-kind r (formsIn (parts k is)) m e) (rw (i, l) o) g (matches Kind.semicolon a) _ (not-true _ (held-first noSemi a rest y (led (f .label) r us noSemi 0 (m .items) (rw i n)))) (rw q) y)
   body-gives (counted k is) s e h =
-      let q = only r (form k [] is stay false) m e in
+      let q = form-only r (form k [] is stay false) m e in
       let i : m .items ≡ is = rw q in
       let l : m .kind ≡ k = rw q in
       rw (← i, ← l)
-      (part-gives v f a r m us fit (kind-of (formsIn (counted k is)) e) (rw (i, l) s) g (empty (f .lacks)) _ (not-true _ h) (rw q) (at-once (rw q)))
+      (part-gives v f a r m us fit (form-kind r (formsIn (counted k is)) m e) (rw (i, l) s) g (empty (f .lacks)) _ (not-true _ h) (rw q) (at-once (rw q)))
 
 -- A STATEMENT IS READ AS ITS RECORD
 pub statement-back : StatementBack
 statement-back v f m r a us e h z g =
     let (old, i) = both (not (m .old) || leb v 5400000) (hasRoom f (body (f .block)) && suits f m r) h in
     let (room, fit) = both (hasRoom f (body (f .block))) (suits f m r) i in
-    body-gives v f r m a us fit g old z (body (f .block)) (all-sound (f .block)) e room
+    body-gives v f r m a us fit g old z (body (f .block)) (all-legible (f .block)) e room

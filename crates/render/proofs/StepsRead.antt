@@ -1,7 +1,7 @@
 -- What a step of the reader takes can be written: by the cases of the block's body, whose forms and last words the table is tested for.
 use Prim.Native.Nat.{ℕ}
 use mathlib.Core.Path.{_≡_, refl, sym, ap, subst, _∙_}
-use mathlib.Core.Bool.{Bool, true, false, not, _&&_, _||_, false≢true}
+use mathlib.Core.Bool.{Bool, true, false, not, _&&_, _||_}
 use mathlib.Core.List.{List, [], _∷_, List·Memᴰ·head}
 use borrow.Author.Tests.{eq-eqb, not-true}
 use Rattle.lexer.specs.Kinds as Kind
@@ -27,25 +27,29 @@ use Rattle.render.specs.Says.{holdsAll, givesAll}
 use Rattle.render.specs.Forms.{Form, form, formsOf, rowForms, formsIn, isOf, Close, closeOf, nobody}
 use Rattle.render.specs.Lines.{onLine, formIn}
 use Rattle.render.specs.Fit.{alike, emptied, suits, takes, hasRoom, isBack, closes, endsBefore, lastWord}
+use Rattle.render.proofs.Tested.{or-left}
+use Rattle.render.proofs.All.{all-member}
+use Rattle.render.proofs.Every.{every-suf}
+use Rattle.render.proofs.Forms.{act-passes}
 use Rattle.render.proofs.Stands.{Good, plainRec, isSome, hasLast, StatementRead, LastRead, OptionsRead, BeforeRead}
 use Rattle.render.proofs.Fields as Fields
 use Rattle.render.proofs.ItemRead.{plain, ready}
-use Rattle.render.proofs.Optional.{proves, proven, fades, optional}
-use Rattle.render.proofs.ItemsRead.{sound, every-suf, kind-kept, statement-items}
-use Rattle.render.proofs.FormsRead.{leading, of-code, differ, distinct, all-member, its-form, unasking, holds-nobody}
+use Rattle.render.proofs.OmittedRead.{proves, proven, fades, optional}
+use Rattle.render.proofs.ItemsRead.{writable, kind-kept, statement-items}
+use Rattle.render.proofs.FormsRead.{leading, of-code, differ, distinct, its-form, unasking, holds-nobody}
 use Rattle.render.proofs.RowsRead as Rows
-use Rattle.render.proofs.RowsRead.{inner, shut, orderly, no-last, acts-pass, Ran, Came, runs, Gave, by-cond, held, Closed, RowsAct, rows-act, judged-act}
+use Rattle.render.proofs.RowsRead.{inner, shut, orderly, no-last, Ran, Came, runs, Gave, by-cond, held, Closed, RowsAct, rows-act, judged-act}
 
 -- A TEST OF THE TABLE
 
 -- the items of a form can be written where they were read
 unfoldable fit : Form → Bool
-fit m = sound (m .kind) 0 [] (m .items)
+fit m = writable (m .kind) 0 [] (m .items)
 
 -- last words ask nothing of a record
 unfoldable last-fit : Maybe Close → Bool
 last-fit none = true
-last-fit (some c) = sound 0 0 [] (c .items) && unasking (c .items)
+last-fit (some c) = writable 0 0 [] (c .items) && unasking (c .items)
 
 -- no row gives what is ahead back to the block around, where the block has last words
 unfoldable stays : Bool → Act → Bool
@@ -65,7 +69,7 @@ unfoldable proper : Body → Bool
 proper b = (distinct (formsIn b) && Spelt.all fit (formsIn b)) && rows-fit b
 
 all-proper : (b : Block) → proper (body b) ≡ true
-unfolding proper rows-fit stays last-fit fit sound unasking distinct differ leading Says.gives formsIn rowForms formsOf closeOf Spelt.all orderly Rows.plain inner shut numbered ready optional skip proven proves fades Says.shows Fields.given Fields.asked Fields.untouched Codes.keyed-seconds Codes.goes goesOn keys values words raised upper same firstWhere wordOf onOff siteClasses symmetries macroClasses directions uses shapes antennaModels antennaKeys portClasses layerOptions valuesOf placeOf codeOf empty
+unfolding proper rows-fit stays last-fit fit writable unasking distinct differ leading Says.gives formsIn rowForms formsOf closeOf Spelt.all orderly Rows.plain inner shut numbered ready optional skip proven proves fades Says.shows Fields.given Fields.asked Fields.untouched Codes.keyed-seconds Codes.goes goesOn keys values words raised upper same firstWhere wordOf onOff siteClasses symmetries macroClasses directions uses shapes antennaModels antennaKeys portClasses layerOptions valuesOf placeOf codeOf empty
 all-proper = at-block proper refl
 
 -- WHAT A STEP SAYS
@@ -86,17 +90,13 @@ module _ (v : ℕ) (f : Frame ℕ) (a : Ahead ℕ Mark) where
   last-holds rows b l h g =
       let (c, e, u, d, r) = h in
       let l : last-fit (some c) ≡ true = rw e at l in
-      let (s, t) = both (sound 0 0 [] (c .items)) (unasking (c .items)) l in
+      let (s, t) = both (writable 0 0 [] (c .items)) (unasking (c .items)) l in
       let i = statement-items f 0 (c .items) a (r .ahead) b d s (every-suf Good (r .suffix) g) (r .was) in
       (c, e, rw e u, holds-nobody (f .label) (f .lacks) (plain d) (kind-kept f i) (c .items) t (i .holds))
 
   no-back : (n : ℕ) (rows : List Row) (last : Bool) → all-stay last rows ≡ true → isBack (actFor n (held v f a) rows) ≡ true → last ≡ false
   unfolding stays
-  no-back n rows last s b = not-true last (go (isBack (actFor n (held v f a) rows)) b (acts-pass (stays last) n (held v f a) rows refl s))
-    where
-      go : (t : Bool) → t ≡ true → (not t || not last) ≡ true → not last ≡ true
-      go true b e = e
-      go false b e = absurd (false≢true b)
+  no-back n rows last s b = not-true last (or-left (isBack (actFor n (held v f a) rows)) b (act-passes (λ u act. stays last act) n (held v f a) rows refl s))
 
   keyed-writes : (n : ℕ) (rows : List Row) → all-stay (isSome (closeOf rows)) rows ≡ true → last-fit (closeOf rows) ≡ true
       → (s : Step ℕ Mark (Rec ℕ)) → RowsAct v f a rows (actFor n (held v f a) rows) s → Writes (keyed n rows) s
@@ -149,7 +149,7 @@ module _ (v : ℕ) (f : Frame ℕ) (a : Ahead ℕ Mark) where
   counted-give k is e (refused n p) r = tt
 
   parts-end : (k : ℕ) (is : List Item) (t : Answer ℕ Mark (Draft ℕ)) → Came v f a (Ran v f a 0 (whole 6 ∷ semi ∷ [])) t → Writes (parts k is) (ended t)
-  unfolding onLine sound numbered ready optional skip Fields.asked Fields.untouched Fields.given holdsAll Says.holds Says.omitted
+  unfolding onLine writable numbered ready optional skip Fields.asked Fields.untouched Fields.given holdsAll Says.holds Says.omitted
   parts-end k is (ok d b) r = λ g.
       let i = statement-items f 0 (whole 6 ∷ semi ∷ []) a (r .ahead) b d refl (every-suf Good (r .suffix) g) (r .was) in
       (refl, λ u. both (empty (f .lacks)) true (i .holds) .0, λ o. clash o)

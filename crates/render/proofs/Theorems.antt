@@ -7,7 +7,7 @@ use lib.ListN.{length}
 use Rattle.record.specs.declared.Record.{Record}
 use Rattle.lexer.specs.Lex.{from}
 use Rattle.lexer.specs.Screen.{limit}
-use Rattle.lexer.proofs.Runs.{both}
+use Rattle.word.proofs.Words.{both}
 use Rattle.grammar.specs.Turns.{read}
 use Rattle.grammar.specs.Reading.{ahead, filed, start, records, reading}
 use Rattle.grammar.specs.Standing.{placesOf}
@@ -16,16 +16,16 @@ use Rattle.render.specs.Plain.{Plain, bare, aside}
 use Rattle.render.specs.Lines.{lines, render}
 use Rattle.render.specs.Fit.{fitFrom, indexed, isFit, Fit}
 use Rattle.render.proofs.Ascii.{clear}
+use Rattle.render.proofs.Apart.{lines-apart}
+use Rattle.render.proofs.LinesSpelt.{lines-spelt}
 use Rattle.render.proofs.Bared.{from-turns, told-turns, bared}
 use Rattle.render.proofs.Indexes.{numbered, numbered-alike, aside-numbered, aside-indexed}
-use Rattle.render.proofs.Apart.{lines-apart}
-use Rattle.render.proofs.Spelling.{lines-spelt}
 use Rattle.render.proofs.Alike.{Corresponds}
+use Rattle.render.proofs.Aside.{aside-alike}
 use Rattle.render.proofs.ListsBack.{list-back}
 use Rattle.render.proofs.ReadingFits.{reading-fits}
 use Rattle.render.proofs.Renamed.{lines-renamed, fit-renamed}
-use Rattle.render.proofs.Aside.{aside-alike}
-use Rattle.render.proofs.Again.{ahead-written, turns-begin}
+use Rattle.render.proofs.AheadWritten.{ahead-written, turns-begin}
 
 -- OF THE RECORDS WITH THEIR PLACES: they fit, and they are written alike
 bare-fit : (s : List ℕ) (rs : List Record) → reading s ≡ records rs → fitFrom start (map (bare s) rs) ≡ true

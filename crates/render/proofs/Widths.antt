@@ -11,11 +11,11 @@ use lib.ListN.{length, getD, length-append, length-replicate}
 use Rattle.text.specs.Text.{bytes}
 use Rattle.lexer.specs.Kinds as Kind
 use Rattle.lexer.specs.Screen.{limit}
-use Rattle.lexer.proofs.Runs.{both}
 use Rattle.numeral.specs.declared.Value.the-variants.{Scaled}
 use Rattle.numeral.proofs.Short.{short-any}
 use Rattle.word.specs.Words.{keys, values, words}
 use Rattle.word.specs.Spelling.{spelling, firstOf, secondOf}
+use Rattle.word.proofs.Words.{both}
 use Rattle.grammar.specs.Grammar.{Item, key, keyword, name, own, x, y, semi, value, first, firstKey, second, string, code, ifMore, noName, among, whole}
 use Rattle.grammar.specs.Engine.{Frame}
 use Rattle.render.specs.Pieces.{Said, said, Piece, newline, text}

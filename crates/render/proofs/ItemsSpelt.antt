@@ -1,24 +1,24 @@
 -- What the items of a statement say can be written where the record has what they ask: names and strings are asked to be, numbers
 -- always are, and the words of the table pass a test.
 use Prim.Native.Nat.{ℕ, zero, suc, _^_, _-_}
-use mathlib.Core.Path.{_≡_, refl, sym}
-use mathlib.Core.Bool.{Bool, true, false, cond, not, _&&_, _||_, false≢true}
+use mathlib.Core.Path.{_≡_, refl}
+use mathlib.Core.Bool.{Bool, true, false, cond, _&&_, _||_, false≢true}
 use mathlib.Core.List.{List, [], _∷_, _++_}
-use borrow.Author.Tests.{eqb-true}
 use lib.Dec.{eqb, ltb}
 use lib.ListN.{length}
 use Rattle.text.specs.Text.{bytes}
 use Rattle.lexer.specs.Kinds as Kind
-use Rattle.lexer.proofs.Runs.{both}
 use Rattle.numeral.specs.declared.Value.the-variants.{Scaled}
-use Rattle.word.specs.Codes.{valuesOf, placeOf, codeOf}
+use Rattle.word.specs.Codes.{valuesOf}
+use Rattle.word.specs.Spelling.{firstOf, secondOf}
+use Rattle.word.proofs.Words.{both}
 use Rattle.grammar.specs.Grammar.{Item, key, keyword, name, own, x, y, semi, value, first, firstKey, second, string, code, ifMore, noName, among, whole}
 use Rattle.render.specs.Pieces.{Said, said}
 use Rattle.render.specs.Spelt.{all, isSemicolon, isToken, isSpelt, allSpelt}
 use Rattle.render.specs.Plain.{Plain}
-use Rattle.word.specs.Spelling.{firstOf, secondOf}
 use Rattle.render.specs.Says.{isCode, numeral, word, number, semicolon, quoted, says, omitted, saysAll, holds, holdsAll}
 use Rattle.render.proofs.Numbers.{number-spelt}
+use Rattle.render.proofs.Codes.{each-value, code-passes}
 
 -- ---- tokens
 pub spelt-append : (ts us : List Said) → allSpelt ts ≡ true → allSpelt us ≡ true → allSpelt (ts ++ us) ≡ true
@@ -46,40 +46,16 @@ number-says v = go (ltb v (2 ^ 63))
     go false = number-spelt true (2 ^ 64 - v)
 
 -- ---- the words of values
--- of each value the first word can be written, and the second if there is one
-unfoldable pub sayable : List ℕ → Bool
-sayable [] = true
-sayable (w ∷ []) = true
-sayable (w ∷ v ∷ l) = isSpelt (word w) && ((eqb v 0 || isSpelt (word v)) && sayable l)
+-- the first word of a value can be written, and the second if there is one
+unfoldable pub sayable : ℕ → ℕ → Bool
+sayable w v = isSpelt (word w) && (eqb v 0 || isSpelt (word v))
 
-abbrev Sayable : ℕ → ℕ → Type 0
-Sayable w v = (isSpelt (word w) ≡ true) × (eqb v 0 || isSpelt (word v) ≡ true)
+unfoldable pub allSayable : ℕ → Bool
+allSayable k = each-value sayable (valuesOf k)
 
-place-says : (n : ℕ) (l : List ℕ) (w v : ℕ) → sayable l ≡ true → eqb (placeOf n l w v) 0 ≡ false → Sayable w v
-unfolding sayable placeOf
-place-says n [] w v e z = absurd (false≢true (sym z))
-place-says n (a ∷ []) w v e z = absurd (false≢true (sym z))
-place-says n (a ∷ b ∷ l) w v e z =
-    let (f, g) = both (isSpelt (word a)) ((eqb b 0 || isSpelt (word b)) && sayable l) e in
-    let (h, i) = both (eqb b 0 || isSpelt (word b)) (sayable l) g in
-    go (eqb a w && eqb b v) refl z f h (place-says (suc n) l w v i)
-  where
-    go : (t : Bool) → (eqb a w && eqb b v) ≡ t → eqb (cond t n (placeOf (suc n) l w v)) 0 ≡ false → isSpelt (word a) ≡ true → eqb b 0 || isSpelt (word b) ≡ true
-        → (eqb (placeOf (suc n) l w v) 0 ≡ false → Sayable w v) → Sayable w v
-    go true q z f h ih =
-        let (i, j) = both (eqb a w) (eqb b v) q in
-        rw (← eqb-true a w i, ← eqb-true b v j) (f, h)
-    go false q z f h ih = ih z
-
-code-says : (k c : ℕ) → sayable (valuesOf k) ≡ true → isCode k c ≡ true → Sayable (firstOf k c) (secondOf k c)
-unfolding isCode codeOf
-code-says k c e h =
-    let (n, p) = both (not (eqb c 0)) (eqb (codeOf k (firstOf k c) (secondOf k c)) c) h in
-    place-says 1 (valuesOf k) (firstOf k c) (secondOf k c) e (rw (eqb-true _ c p) (go (eqb c 0) n))
-  where
-    go : (t : Bool) → not t ≡ true → t ≡ false
-    go true q = sym q
-    go false q = refl
+code-says : (k c : ℕ) → allSayable k ≡ true → isCode k c ≡ true → (isSpelt (word (firstOf k c)) ≡ true) × (eqb (secondOf k c) 0 || isSpelt (word (secondOf k c)) ≡ true)
+unfolding allSayable sayable
+code-says k c e h = both (isSpelt (word (firstOf k c))) (eqb (secondOf k c) 0 || isSpelt (word (secondOf k c))) (code-passes k c h sayable e)
 
 -- ---- items
 -- the item asks that the code is one of the kind
@@ -115,10 +91,10 @@ wellWorded k own is = true
 wellWorded k x is = true
 wellWorded k y is = true
 wellWorded k semi is = true
-wellWorded k value is = sayable (valuesOf k)
-wellWorded k first is = nextAsks is && sayable (valuesOf k)
-wellWorded k firstKey is = nextAsks is && sayable (valuesOf k)
-wellWorded k second is = sayable (valuesOf k)
+wellWorded k value is = allSayable k
+wellWorded k first is = nextAsks is && allSayable k
+wellWorded k firstKey is = nextAsks is && allSayable k
+wellWorded k second is = allSayable k
 wellWorded k (string n) is = true
 wellWorded k (code c) is = true
 wellWorded k (ifMore n) is = true
@@ -154,19 +130,19 @@ module _ (label lacks : List ℕ) (r : Plain) where
   asked-code (among vs) e h = absurd (false≢true e)
   asked-code (whole n) e h = absurd (false≢true e)
 
-  next-code : (is : List Item) → nextAsks is ≡ true → holdsAll 0 label lacks is r ≡ true → Coded
+  pub next-code : (is : List Item) → nextAsks is ≡ true → holdsAll 0 label lacks is r ≡ true → Coded
   unfolding nextAsks holdsAll
   next-code [] e h = absurd (false≢true e)
   next-code (i ∷ is) e h = asked-code i e (both (holds label lacks r i) (holdsAll (omitted r i is) label lacks is r) h .0)
 
-  first-says : sayable (valuesOf (r .kind)) ≡ true → Coded → allSpelt (word (firstOf (r .kind) (r .code)) ∷ []) ≡ true
+  first-says : allSayable (r .kind) ≡ true → Coded → allSpelt (word (firstOf (r .kind) (r .code)) ∷ []) ≡ true
   first-says e h = one _ (code-says (r .kind) (r .code) e h .0)
 
-  next-says : (is : List Item) → nextAsks is && sayable (valuesOf (r .kind)) ≡ true → holdsAll 0 label lacks is r ≡ true
+  next-says : (is : List Item) → nextAsks is && allSayable (r .kind) ≡ true → holdsAll 0 label lacks is r ≡ true
       → allSpelt (word (firstOf (r .kind) (r .code)) ∷ []) ≡ true
-  next-says is e h = let (f, g) = both (nextAsks is) (sayable (valuesOf (r .kind))) e in first-says g (next-code is f h)
+  next-says is e h = let (f, g) = both (nextAsks is) (allSayable (r .kind)) e in first-says g (next-code is f h)
 
-  second-says : sayable (valuesOf (r .kind)) ≡ true → Coded
+  second-says : allSayable (r .kind) ≡ true → Coded
       → allSpelt (cond (eqb (secondOf (r .kind) (r .code)) 0) [] (word (secondOf (r .kind) (r .code)) ∷ [])) ≡ true
   unfolding allSpelt
   second-says e h = go (eqb v 0) (code-says (r .kind) (r .code) e h .1)

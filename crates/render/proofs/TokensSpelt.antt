@@ -23,7 +23,8 @@ use Rattle.grammar.specs.Reading.{Mark, tok}
 use Rattle.grammar.specs.Standing.{Every}
 use Rattle.render.specs.Pieces.{said}
 use Rattle.render.specs.Spelt.{all, isName, isString, isToken, isSpelt}
-use Rattle.render.proofs.Bytes.{all-append, all-take, all-drop, run-over, run-holds}
+use Rattle.render.proofs.All.{all-append, all-take, all-drop}
+use Rattle.render.proofs.Bytes.{run-over, run-holds}
 
 -- a name that is read can be written
 abbrev pub NameSpelt : {A M : Type 0} → Tok A M → Type 0

@@ -1,7 +1,7 @@
 -- A written text, as the reader has it ahead: its tokens and the end, and none of them is bad, so the turns begin.
 use Prim.Native.Nat.{ℕ, suc}
 use mathlib.Core.Path.{_≡_, refl, ap, _∙_}
-use mathlib.Core.Bool.{Bool, true, false}
+use mathlib.Core.Bool.{Bool, true, false, false≢true}
 use mathlib.Core.List.{List, [], _∷_, _++_, map, map-map}
 use native.Mathlib.Omega.{arith}
 use borrow.Author.Tests.{eqb-true}
@@ -10,7 +10,7 @@ use lib.ListN.{length, length-append}
 use Rattle.lexer.specs.declared.Lexed.{Lexed}
 use Rattle.lexer.specs.Bytes.{isAscii}
 use Rattle.lexer.specs.Lex.{from}
-use Rattle.lexer.proofs.Runs.{both}
+use Rattle.word.proofs.Words.{both}
 use Rattle.grammar.specs.Tokens.{Ahead, bad}
 use Rattle.grammar.specs.Table.{body}
 use Rattle.grammar.specs.Turns.{turns}
@@ -34,7 +34,7 @@ unfolding isSpelt isToken
 spelt-kind t z = go (eqb (t .kind) bad) refl (both (isToken (t .kind) (t .bytes)) (all isAscii (t .bytes)) z .0)
   where
     go : (c : Bool) → eqb (t .kind) bad ≡ c → isToken (t .kind) (t .bytes) ≡ true → c ≡ false
-    go true e f = absurd (let k = eqb-true (t .kind) bad e in let g : false ≡ true = rw k at f in let o : _≡_ {A = ℕ} 0 1 = cc in omega arith)
+    go true e f = absurd (false≢true (rw (eqb-true (t .kind) bad e) at f))
     go false e f = refl
 
 first-kind : (us : List Said) → allSpelt us ≡ true → (u : Said) (l : List Said) → u ∷ l ≡ us ++ (finish ∷ []) → eqb (u .kind) bad ≡ false

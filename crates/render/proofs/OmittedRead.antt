@@ -19,10 +19,11 @@ use Rattle.render.specs.Spelt.{isName, isToken, isSpelt}
 use Rattle.render.specs.Plain.{Plain}
 use Rattle.render.specs.Says.{holds, holdsAll, shows, any, omitted}
 use Rattle.render.specs.Forms.{nobody}
+use Rattle.render.proofs.Tested.{or-right}
 use Rattle.render.proofs.Fields.{part, asked, untouched, alike}
 
 -- an item begins an optional part, or passes over nothing
-by-part : (P : Item → Type 0) → ((n : ℕ) → P (ifMore n)) → ((i : Item) → ((r : Plain) (is : List Item) → omitted r i is ≡ 0) → ((b : Ahead ℕ Mark) → passed i b ≡ 0) → P i)
+pub by-part : (P : Item → Type 0) → ((n : ℕ) → P (ifMore n)) → ((i : Item) → ((r : Plain) (is : List Item) → omitted r i is ≡ 0) → ((b : Ahead ℕ Mark) → passed i b ≡ 0) → P i)
     → (i : Item) → P i
 unfolding omitted
 by-part P p q (key w) = q (key w) (λ r is. refl) (λ b. refl)
@@ -115,11 +116,7 @@ module _ (label lacks : List ℕ) (r : Plain) where
       go false s e p q f =
           let (u, v) = both (eqb (skip i) 0) (proven n is) e in
           let w = f v (subst (λ m. holdsAll m label lacks is r ≡ true) (none-omitted i u r is) q) in
-          either (shows r i) w
-        where
-          either : (t : Bool) {u : Bool} → u ≡ true → (t || u) ≡ true
-          either true e = refl
-          either false e = e
+          or-right (shows r i) w
 
 -- items that show nothing where no other item, of those before and of those after, gives their fields
 unfoldable pub fades : List Item → List Item → List Item → Bool
