@@ -30,11 +30,11 @@ clash rs f e = let z : _≡_ {A = ℕ} 0 1 = cc in omega arith
 pub same-records : (rs qs : List Record) → records rs ≡ records qs → rs ≡ qs
 same-records rs qs e = cc
 
-follow-none : (x : Reading) → x ≡ follow [] x
+pub follow-none : (x : Reading) → x ≡ follow [] x
 follow-none (records qs) = refl
 follow-none (refusal-of r) = refl
 
-follow-follow : (a b : List Record) (x : Reading) → follow a (follow b x) ≡ follow (a ++ b) x
+pub follow-follow : (a b : List Record) (x : Reading) → follow a (follow b x) ≡ follow (a ++ b) x
 follow-follow a b (records qs) = ap records (sym (append-assoc a b qs))
 follow-follow a b (refusal-of r) = refl
 
@@ -51,10 +51,10 @@ nth-left a b k h = List·getD-append a b blank k h
 nth-right : (a b : List Record) (k : ℕ) → nth (a ++ b) (length a + k) ≡ nth b k
 nth-right a b k = getD-append-add a b k blank
 
-fit-left : (a b : List Record) → Fit (a ++ b) → Fit a
+pub fit-left : (a b : List Record) → Fit (a ++ b) → Fit a
 fit-left a b h k l = rw (nth-left a b k l) at (h k (rw (length-append a b) (omega arith)))
 
-fit-right : (a b : List Record) → Fit (a ++ b) → Fit b
+pub fit-right : (a b : List Record) → Fit (a ++ b) → Fit b
 fit-right a b h k l = rw (nth-right a b k) at (h (length a + k) (rw (length-append a b) (omega arith)))
 
 -- THE FIRST PASS

@@ -53,7 +53,7 @@ module _ (s : List ℕ) (x : Begun) (b : Begins s x) where
   begun-at st h = (rw h at b) .0
 
 module _ (s : List ℕ) (st : State) (from : reading s ≡ readFrom s st) where
-  reads-of : (rs : List Record) → readFrom s st ≡ records rs → Reads s st rs
+  pub reads-of : (rs : List Record) → readFrom s st ≡ records rs → Reads s st rs
   reads-of rs e = record { gives = e; rises = reading-rises s rs (from ∙ e); fit = every-nth rs (in-range s rs (from ∙ e)) }
 
   module _ (file : List ℕ) (x : Ordered) (h : Orders s st file x) where

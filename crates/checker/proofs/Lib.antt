@@ -1,7 +1,7 @@
 mod Bytes
 mod Scanning
 mod Covering
-mod Laying
-mod Following
+pub mod Laying
+pub mod Following
 mod Windowing
-mod Judging
+pub mod Judging

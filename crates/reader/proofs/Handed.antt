@@ -148,6 +148,7 @@ module _ (s : List ℕ) where
     begins t e o h = (
       cleared (sym c ∙ v) ∙ (found (lexFrom s 0 1) refl t (sym e ∙ q) ∙ rw (← h .0, ← h .1 s)),
       clear-short s (sym v ∙ c),
+      h .1 s,
     )
 
     pub fails : (f : Refusal) → y ≡ T.Refused f → reading s ≡ refusal-of f

@@ -46,7 +46,7 @@ applied-filed v f fs o (T.goes b a) = refl
 applied-filed v f fs o T.backs = refl
 applied-filed v f fs o (T.halts n p) = refl
 
-frame-block : (s : List ℕ) (o : State) (b : Block) → frameOf s o b .block ≡ blockOf b
+pub frame-block : (s : List ℕ) (o : State) (b : Block) → frameOf s o b .block ≡ blockOf b
 frame-block s o B.Library = refl
 frame-block s o B.Units = refl
 frame-block s o B.Site = refl
@@ -104,7 +104,7 @@ around-left o B.Polygon h = refl
 around-left o B.Path h = refl
 
 module _ (s : List ℕ) (o : State) (t : Token) where
-  left-frames : eqb (numberOf (o .block)) 0 ≡ false → framesOf s (movedTo (firstOf (around o (o .block))) t o) ≡ outerFrames s o
+  pub left-frames : eqb (numberOf (o .block)) 0 ≡ false → framesOf s (movedTo (firstOf (around o (o .block))) t o) ≡ outerFrames s o
   left-frames h = let c = firstOf (around o (o .block)) in
       ap (λ bs. map (frameOf s (movedTo c t o)) (c ∷ bs)) (around-moved s o t c c)
       ∙ frames-moved s o t c (c ∷ around o c)

@@ -13,7 +13,7 @@ use Rattle.reader.specs.declared.pass.Passed.{Passed}
 use Rattle.reader.specs.declared.pass.Passed.the-variants as P
 use Rattle.grammar.specs.Table.{body}
 use Rattle.grammar.specs.Turns.{turns}
-use Rattle.grammar.specs.Reading.{Reading, records, refusal-of, told, reading}
+use Rattle.grammar.specs.Reading.{Reading, records, refusal-of, start, told, reading}
 use Rattle.parser.specs.Code.{restOf, aheadOf}
 use Rattle.reader.specs.Open.{stateOf}
 
@@ -31,9 +31,9 @@ unfoldable pub storedAll : ℕ → List Record → List ℕ → List ℕ
 storedAll n [] file = file
 storedAll n (r ∷ rs) file = storedAll (n + 1) rs (stored r n file)
 
--- a text within its limit is read from the state on, or is refused
+-- a text within its limit is read from the state on, which is the first, or is refused
 abbrev pub Begins : List ℕ → Begun → Type 0
-Begins s (B.At st) = (reading s ≡ readFrom s st) × (length s ≤ limit)
+Begins s (B.At st) = (reading s ≡ readFrom s st) × (length s ≤ limit) × (stateOf s st ≡ start)
 Begins s (B.Refused r) = reading s ≡ refusal-of r
 
 -- n records further: from a state and a file to a state and a file, with fewer tokens ahead

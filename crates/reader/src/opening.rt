@@ -15,7 +15,7 @@ use record::kind;
 
 impl State {
     // The state after a record that the innermost block may have.
-    pub(crate) fn after(self, r: Record, next: Token) -> Self
+    pub fn after(self, r: Record, next: Token) -> Self
         ensures { λ q. ⌜ (q .held ≡ next) × ((s : List ℕ) → fits (self .block) (r .kind) ≡ true → stateOf s q ≡ afterIn s self r) ⌝ }
     {
         let k = r.kind();

@@ -78,7 +78,7 @@ impl State {
     }
 
     // The same but for the innermost block and the token held.
-    pub(crate) fn moved(self, block: Block, held: Token) -> Self
+    pub fn moved(self, block: Block, held: Token) -> Self
         ensures { λ r. ⌜ r ≡ movedTo block held self ⌝ }
     {
         Self {
@@ -131,7 +131,7 @@ impl State {
     }
 
     // The state as the innermost block ends.
-    pub(crate) fn left(self, next: Token) -> Self
+    pub fn left(self, next: Token) -> Self
         ensures { λ r. ⌜ r ≡ movedTo (firstOf (around self (self .block))) next self ⌝ }
     {
         self.moved(self.outer_block(), next)
@@ -165,7 +165,7 @@ impl State {
     }
 
     // Whether no block is open but the library.
-    pub(crate) fn is_library(self) -> bool
+    pub fn is_library(self) -> bool
         ensures { λ r. ⌜ r ≡ eqb (numberOf (self .block)) 0 ⌝ }
     {
         let block = self.block;

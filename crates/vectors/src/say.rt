@@ -40,3 +40,30 @@ pub fn bytes(all: &[u8]) {
 fn wide(b: u8) -> u64 {
     b as u64
 }
+
+// Each byte in hexadecimal.
+pub fn hex(all: &[u8]) {
+    let mut i = 0;
+    while i < all.len() {
+        let b = all[i];
+        text(&[digit(b / 16), digit(b % 16)]);
+        i += 1;
+    }
+}
+
+fn digit(d: u8) -> u8 {
+    if d < 10 {
+        return b'0' + d;
+    }
+    if d < 16 {
+        return b'a' + (d - 10);
+    }
+    b'?'
+}
+
+// The first n bytes in hexadecimal.
+pub fn front_hex(all: &[u8], n: usize) {
+    if n <= all.len() {
+        hex(&all[0..n]);
+    }
+}
