@@ -6,8 +6,9 @@
 //! decimals: the number itself as rust_decimal holds it, `MANTISSA SCALE`, or `refused`
 //! outcomes: `read`, or the refusal's number with place and line (`-` where the original gives none)
 //! readings: `refusal NUMBER PLACE LINE`, or `read` and what the original keeps of the text, in the form that kept.rs defines
+//! writings: what the original writes of what it reads, in hexadecimal, or `not read`, or `not written`
 //!
-//! `panic` stands for outcome and reading of a text on which the original stops the program.
+//! `panic` stands for outcome, reading and writing of a text on which the original stops the program.
 //!
 //! Two more take a file with one text as it is: `counts FILE` says how much is in it, and `speed FILE TIMES` reads it so many
 //! times, for whoever takes the time (tools/lef21/speed).
@@ -43,7 +44,8 @@ fn answer() {
         ["decimals"] => numbers::decimal,
         ["outcomes"] => outcome::outcome,
         ["readings"] => outcome::reading,
-        _ => panic!("usage: lef21-oracle tokens | numerals | decimals | outcomes | readings | counts FILE | speed FILE TIMES"),
+        ["writings"] => outcome::writing,
+        _ => panic!("usage: lef21-oracle tokens | numerals | decimals | outcomes | readings | writings | counts FILE | speed FILE TIMES"),
     };
     let stdin = std::io::stdin();
     let mut out = std::io::BufWriter::new(std::io::stdout());

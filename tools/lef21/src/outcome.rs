@@ -26,13 +26,17 @@ fn refusal(e: LefError) -> String {
     }
 }
 
-/// What the original says of a text, or nothing where it panics.
-fn asked(src: &str) -> Option<Result<LefLibrary, LefError>> {
+/// What the original makes of something, or nothing where it panics.
+fn quietly<A>(make: impl FnOnce() -> A + panic::UnwindSafe) -> Option<A> {
     let loud = panic::take_hook();
     panic::set_hook(Box::new(|_| {}));
-    let said = panic::catch_unwind(|| parse_str(src)).ok();
+    let made = panic::catch_unwind(make).ok();
     panic::set_hook(loud);
-    said
+    made
+}
+
+fn asked(src: &str) -> Option<Result<LefLibrary, LefError>> {
+    quietly(|| parse_str(src))
 }
 
 pub fn outcome(src: &str) -> String {
@@ -47,6 +51,19 @@ pub fn reading(src: &str) -> String {
     match asked(src) {
         Some(Ok(lib)) => format!("read {}", kept::library(&lib)).trim_end().to_string(),
         Some(Err(e)) => format!("refusal {}", refusal(e)),
+        None => "panic".to_string(),
+    }
+}
+
+/// What the original writes of a text that it reads, in hexadecimal; `not read`, `not written` where it gives an error, or `panic`.
+pub fn writing(src: &str) -> String {
+    match asked(src) {
+        Some(Ok(lib)) => match quietly(panic::AssertUnwindSafe(|| lib.to_string())) {
+            Some(Ok(text)) => text.bytes().map(|b| format!("{:02x}", b)).collect(),
+            Some(Err(_)) => "not written".to_string(),
+            None => "panic".to_string(),
+        },
+        Some(Err(_)) => "not read".to_string(),
         None => "panic".to_string(),
     }
 }

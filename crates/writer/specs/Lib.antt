@@ -1,0 +1,4 @@
+pub mod Put
+pub mod Stated
+pub mod Penned
+pub mod Shapes

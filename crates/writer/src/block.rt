@@ -1,0 +1,102 @@
+// The innermost block: whether it has a record, and how it ends.
+ghost use mathlib.Core.Path.{_≡_};
+ghost use mathlib.Core.List.{List, [], _∷_, _++_};
+ghost use Prim.Native.Nat.{ℕ, _≤_};
+ghost use lib.ListN.{take, drop};
+ghost use Rattle.lexer.specs.Kinds as Kind;
+ghost use Rattle.grammar.specs.Engine.{some};
+ghost use Rattle.reader.specs.Open.{frameOf};
+ghost use Rattle.render.specs.Pieces.{said, text as bytesOf};
+ghost use Rattle.render.specs.Plain.{ownerOf, bare};
+ghost use Rattle.render.specs.Says.{word};
+ghost use Rattle.render.specs.Lines.{line, same, owns as has};
+ghost use Rattle.writer.specs.Put.{Put};
+ghost use Rattle.writer.specs.Stated.{closed};
+use crate::line::begin;
+use crate::line::end_line;
+use crate::line::end_statement;
+use crate::line::next_name;
+use crate::line::next_word;
+use reader::state::Block;
+use reader::state::State;
+use record::Record;
+use word::names;
+
+pub(crate) fn owns(st: State, r: Record) -> bool
+    ensures { λ b. ⌜ ((s : List ℕ) → b ≡ has (frameOf s st (st .block)) (bare s r)) ⌝ }
+{
+    let owner = r.owner();
+    let block = st.block;
+    match block {
+        Block::Library => owner == Record::LIBRARY,
+        Block::Units => starts(st.outer, owner),
+        Block::Site => starts(st.outer, owner),
+        Block::Symmetry => starts(st.part, owner),
+        Block::Macro => starts(st.outer, owner),
+        Block::Pin => starts(st.pin, owner),
+        Block::Port => starts(st.inner, owner),
+        Block::Obs => starts(st.inner, owner),
+        Block::Options => starts(st.layer, owner),
+        Block::Layer => starts(st.layer, owner),
+        Block::Rect => starts(st.part, owner),
+        Block::Polygon => starts(st.part, owner),
+        Block::Path => starts(st.part, owner),
+    }
+}
+
+// Whether the owner is the block that starts at the place.
+fn starts(place: usize, owner: usize) -> bool
+    ensures { λ b. ⌜ b ≡ same (some place) (ownerOf owner) ⌝ }
+{
+    if owner == Record::LIBRARY {
+        return false;
+    }
+    place == owner
+}
+
+// END under what opened the block, or the `;` of its line; a layer ends with nothing.
+pub(crate) fn write_closing(text: &[u8], st: State, out: &mut [u8], at: usize) -> usize
+    ensures { λ p. ⌜ Put (now (out .entry)) at (closed (now (text .entry)) st) p (now (out .exit)) ⌝ }
+{
+    let block = st.block;
+    match block {
+        Block::Library => end_word(names::LIBRARY, out, at),
+        Block::Units => end_word(names::UNITS, out, at),
+        Block::Site => end_name(text, 0, st.title, st.title_len, out, at),
+        Block::Symmetry => end_statement(out, at),
+        Block::Macro => end_name(text, 0, st.title, st.title_len, out, at),
+        Block::Pin => end_name(text, 1, st.pin_title, st.pin_len, out, at),
+        Block::Port => end(2, out, at),
+        Block::Obs => end(1, out, at),
+        Block::Options => end_statement(out, at),
+        Block::Layer => at,
+        Block::Rect => end_statement(out, at),
+        Block::Polygon => end_statement(out, at),
+        Block::Path => end_statement(out, at),
+    }
+}
+
+fn end(depth: usize, out: &mut [u8], at: usize) -> usize
+    requires { ⌜ depth ≤ 16 ⌝ }
+    ensures { λ r. ⌜ Put (now (out .entry)) at (bytesOf (line depth (word 9 ∷ []))) r (now (out .exit)) ⌝ }
+{
+    let p = begin(depth, names::END, out, at);
+    end_line(out, p)
+}
+
+fn end_word(k: u8, out: &mut [u8], at: usize) -> usize
+    ensures { λ r. ⌜ Put (now (out .entry)) at (bytesOf (line 0 (word 9 ∷ word k ∷ []))) r (now (out .exit)) ⌝ }
+{
+    let p = begin(0, names::END, out, at);
+    let q = next_word(k, out, p);
+    end_line(out, q)
+}
+
+fn end_name(text: &[u8], depth: usize, start: usize, len: usize, out: &mut [u8], at: usize) -> usize
+    requires { ⌜ depth ≤ 16 ⌝ }
+    ensures { λ r. ⌜ Put (now (out .entry)) at (bytesOf (line depth (word 9 ∷ said Kind.name (take len (drop start (now (text .entry)))) ∷ []))) r (now (out .exit)) ⌝ }
+{
+    let p = begin(depth, names::END, out, at);
+    let q = next_name(text, start, len, out, p);
+    end_line(out, q)
+}

@@ -1,0 +1,107 @@
+// Replays writing: each line of standard input asks for one, and the answer to it is printed on a line.
+//   w ROOM TEXT FILE   the room in four digits, a text, a space and a record file, in hexadecimal: number, place and line, and then
+//                      the buffer, which was filled with `~`
+//   a TEXT             a text, which is read into a file and written: what is written, or `refusal` with number, place and line
+use refusal::Refusal;
+use vectors::hex;
+use vectors::say;
+
+fn main() {
+    let mut input = vectors::input();
+    let n = io::read_full(0, &mut input);
+    lines(&input[..n]);
+}
+
+fn lines(input: &[u8]) {
+    let mut at = 0;
+    while at < input.len() {
+        let stop = vectors::next_of(b'\n', input, at);
+        line(&input[at..stop]);
+        at = stop + 1;
+    }
+}
+
+fn line(part: &[u8]) {
+    if part.len() == 0 {
+        return;
+    }
+    let letter = part[0];
+    match letter {
+        b'w' => given(part),
+        b'a' => again(&part[1..]),
+        _ => say::text(b"?"),
+    }
+    say::newline();
+}
+
+fn answer(a: Refusal) {
+    say::number(a.number as u64);
+    say::number(a.place as u64);
+    say::number(a.line as u64);
+}
+
+fn given(part: &[u8]) {
+    if part.len() < 5 {
+        return;
+    }
+    let mut size = [0u8; 2];
+    hex::bytes(&part[1..5], &mut size);
+    let stop = vectors::next_of(b' ', part, 5);
+    if stop < part.len() {
+        let next = stop + 1;
+        asked(
+            little::number(&[size[1], size[0] % 16], 0, 2) as usize,
+            &part[5..stop],
+            &part[next..],
+        );
+    }
+}
+
+fn asked(room: usize, text_digits: &[u8], file_digits: &[u8]) {
+    let mut text = [0u8; 4096];
+    let mut file = [0u8; 8192];
+    let mut out = [b'~'; 4096];
+    let n = hex::bytes(text_digits, &mut text);
+    let m = hex::bytes(file_digits, &mut file);
+    if room <= 4096 {
+        written(&text[0..n], &file[0..m], &mut out[0..room]);
+    }
+}
+
+fn written(text: &[u8], file: &[u8], out: &mut [u8]) {
+    answer(writer::write(text, file, out));
+    say::hex(out);
+}
+
+// A text of at most 16,384 bytes.
+fn again(digits: &[u8]) {
+    let mut text = [0u8; 16384];
+    let mut file = [0u8; 294912];
+    let n = hex::bytes(digits, &mut text);
+    let a = reader::reading::read(&text[0..n], &mut file);
+    if a.number != Refusal::DONE {
+        refused(a);
+        return;
+    }
+    let count = a.place;
+    rewritten(&text[0..n], &file, count);
+}
+
+// The text with the first n records of the file.
+fn rewritten(text: &[u8], file: &[u8], n: usize) {
+    let mut out = [0u8; 65536];
+    if file.len() / 36 < n {
+        return;
+    }
+    let a = writer::write(text, &file[0..36 * n], &mut out);
+    if a.number != Refusal::DONE {
+        refused(a);
+        return;
+    }
+    say::front_hex(&out, a.place);
+}
+
+fn refused(a: Refusal) {
+    say::text(b"refusal ");
+    answer(a);
+}
