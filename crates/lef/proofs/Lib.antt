@@ -1,0 +1,3 @@
+mod Wide
+pub mod Apart
+pub mod Named

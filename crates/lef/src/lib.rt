@@ -1,0 +1,173 @@
+// The C border of the library: calls on numbers and byte slices. Each returns the number of a refusal, 0 where there is none, and writes
+// all its other results behind the pointers that it is given.
+ghost use mathlib.Core.Path.{_≡_};
+ghost use Rattle.lef.specs.Border.{readNumbers, readBuffer, checkNumbers, writeNumbers, writeBuffer, tokenNumbers, forceNumbers, forceIndex, ownersNumbers, nameSpan};
+use crate::told::byte_or;
+use crate::told::leave;
+use crate::told::span_of;
+use crate::told::tell;
+use lexer::Answer;
+use lookup::Chain;
+use lookup::InForce;
+use record::kind;
+use refusal::Refusal;
+
+mod told;
+
+// The index where no record is in force.
+const NONE: u64 = 18446744073709551615;
+
+// The records of a text, into the buffer.
+#[no_mangle]
+pub extern "C" fn lef_read(text: &[u8], records: &mut [u8], place: &mut u64, line: &mut u64) -> u64
+    ensures { λ r. ⌜ r ≡ readNumbers (now (text .entry)) (now (records .entry)) .number ⌝ }
+    ensures { λ _. ⌜ now (place .exit) ≡ readNumbers (now (text .entry)) (now (records .entry)) .place ⌝ }
+    ensures { λ _. ⌜ now (line .exit) ≡ readNumbers (now (text .entry)) (now (records .entry)) .line ⌝ }
+    ensures { λ _. ⌜ now (records .exit) ≡ readBuffer (now (text .entry)) (now (records .entry)) ⌝ }
+{
+    tell(reader::reading::read(text, records), place, line)
+}
+
+// Whether a record file has the records of a text, each once, in any order.
+#[no_mangle]
+pub extern "C" fn lef_check(text: &[u8], records: &[u8], place: &mut u64, line: &mut u64) -> u64
+    ensures { λ r. ⌜ r ≡ checkNumbers (now (text .entry)) (now (records .entry)) .number ⌝ }
+    ensures { λ _. ⌜ now (place .exit) ≡ checkNumbers (now (text .entry)) (now (records .entry)) .place ⌝ }
+    ensures { λ _. ⌜ now (line .exit) ≡ checkNumbers (now (text .entry)) (now (records .entry)) .line ⌝ }
+{
+    tell(checker::check(text, records), place, line)
+}
+
+// The records of a file that is accepted, as canonical text, into the buffer.
+#[no_mangle]
+pub extern "C" fn lef_write(
+    text: &[u8],
+    records: &[u8],
+    out: &mut [u8],
+    place: &mut u64,
+    line: &mut u64,
+) -> u64
+    ensures { λ r. ⌜ r ≡ writeNumbers (now (text .entry)) (now (records .entry)) (now (out .entry)) .number ⌝ }
+    ensures { λ _. ⌜ now (place .exit) ≡ writeNumbers (now (text .entry)) (now (records .entry)) (now (out .entry)) .place ⌝ }
+    ensures { λ _. ⌜ now (line .exit) ≡ writeNumbers (now (text .entry)) (now (records .entry)) (now (out .entry)) .line ⌝ }
+    ensures { λ _. ⌜ now (out .exit) ≡ writeBuffer (now (text .entry)) (now (records .entry)) (now (out .entry)) ⌝ }
+{
+    tell(writer::write(text, records, out), place, line)
+}
+
+// The first token of a text from a place on.
+#[no_mangle]
+pub extern "C" fn lef_token(
+    text: &[u8],
+    from: u64,
+    kind: &mut u64,
+    start: &mut u64,
+    stop: &mut u64,
+    place: &mut u64,
+    line: &mut u64,
+) -> u64
+    ensures { λ r. ⌜ r ≡ tokenNumbers (now (text .entry)) from .refusal ⌝ }
+    ensures { λ _. ⌜ now (kind .exit) ≡ tokenNumbers (now (text .entry)) from .kind ⌝ }
+    ensures { λ _. ⌜ now (start .exit) ≡ tokenNumbers (now (text .entry)) from .start ⌝ }
+    ensures { λ _. ⌜ now (stop .exit) ≡ tokenNumbers (now (text .entry)) from .stop ⌝ }
+    ensures { λ _. ⌜ now (place .exit) ≡ tokenNumbers (now (text .entry)) from .place ⌝ }
+    ensures { λ _. ⌜ now (line .exit) ≡ tokenNumbers (now (text .entry)) from .line ⌝ }
+{
+    match lexer::first_token(text, from as usize) {
+        Answer::Found(t) => {
+            leave(t.kind, t.start, t.stop, kind, start, stop);
+            tell(Refusal::done(0), place, line)
+        }
+        Answer::End => {
+            leave(0, text.len(), text.len(), kind, start, stop);
+            tell(Refusal::done(0), place, line)
+        }
+        Answer::Refused(refusal) => {
+            leave(0, 0, 0, kind, start, stop);
+            tell(refusal, place, line)
+        }
+    }
+}
+
+// The index of the record in force for an owner and a kind, and for an option of a LAYER a code. A kind that is no byte is held by no
+// record, and is asked for as one that has none in force; such a code as one that is of no option.
+#[no_mangle]
+pub extern "C" fn lef_in_force(
+    records: &[u8],
+    owner: u64,
+    kind: u64,
+    code: u64,
+    index: &mut u64,
+    place: &mut u64,
+    line: &mut u64,
+) -> u64
+    ensures { λ r. ⌜ r ≡ forceNumbers (now (records .entry)) owner kind code .refusal ⌝ }
+    ensures { λ _. ⌜ now (index .exit) ≡ forceIndex (now (records .entry)) owner kind code ⌝ }
+    ensures { λ _. ⌜ now (place .exit) ≡ forceNumbers (now (records .entry)) owner kind code .place ⌝ }
+    ensures { λ _. ⌜ now (line .exit) ≡ forceNumbers (now (records .entry)) owner kind code .line ⌝ }
+{
+    match lookup::in_force(
+        records,
+        owner as usize,
+        byte_or(kind, kind::SITE),
+        byte_or(code, 0),
+    ) {
+        InForce::At(i) => {
+            *index = i as u64;
+            tell(Refusal::done(0), place, line)
+        }
+        InForce::None => {
+            *index = NONE;
+            tell(Refusal::done(0), place, line)
+        }
+        InForce::Refused(refusal) => {
+            *index = 0;
+            tell(refusal, place, line)
+        }
+    }
+}
+
+// How many owners the record at the index has.
+#[no_mangle]
+pub extern "C" fn lef_owners(
+    records: &[u8],
+    index: u64,
+    count: &mut u64,
+    place: &mut u64,
+    line: &mut u64,
+) -> u64
+    ensures { λ r. ⌜ r ≡ ownersNumbers (now (records .entry)) index .refusal ⌝ }
+    ensures { λ _. ⌜ now (count .exit) ≡ ownersNumbers (now (records .entry)) index .count ⌝ }
+    ensures { λ _. ⌜ now (place .exit) ≡ ownersNumbers (now (records .entry)) index .place ⌝ }
+    ensures { λ _. ⌜ now (line .exit) ≡ ownersNumbers (now (records .entry)) index .line ⌝ }
+{
+    match lookup::owners(records, index as usize) {
+        Chain::Count(n) => {
+            *count = n as u64;
+            tell(Refusal::done(0), place, line)
+        }
+        Chain::Refused(refusal) => {
+            *count = 0;
+            tell(refusal, place, line)
+        }
+    }
+}
+
+// The name of the record at the index, as a span of the text.
+#[no_mangle]
+pub extern "C" fn lef_name(
+    text: &[u8],
+    records: &[u8],
+    index: u64,
+    start: &mut u64,
+    len: &mut u64,
+) -> u64
+    ensures { λ r. ⌜ r ≡ 0 ⌝ }
+    ensures { λ _. ⌜ now (start .exit) ≡ nameSpan (now (text .entry)) (now (records .entry)) index .start ⌝ }
+    ensures { λ _. ⌜ now (len .exit) ≡ nameSpan (now (text .entry)) (now (records .entry)) index .len ⌝ }
+{
+    let span = span_of(text, records, index as usize);
+    *start = span.start as u64;
+    *len = span.len as u64;
+    0
+}
