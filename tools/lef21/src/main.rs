@@ -10,8 +10,8 @@
 //!
 //! `panic` stands for outcome, reading and writing of a text on which the original stops the program.
 //!
-//! Two more take a file with one text as it is: `counts FILE` says how much is in it, and `speed FILE TIMES` reads it so many
-//! times, for whoever takes the time (tools/lef21/speed).
+//! Three more take a file with one text as it is: `counts FILE` says how much is in it, `speed FILE TIMES` reads it so many
+//! times, for whoever takes the time (tools/lef21/speed), and `jobs FILE TIMES` takes the time of reading and of writing (bench/run).
 //!
 //! It starts as a C program does: Rust's own start looks for the stack in /proc/self/maps, at which qemu 8.2.2 falls over.
 #![no_main]
@@ -39,13 +39,14 @@ fn answer() {
     let ask: fn(&str) -> String = match args[..] {
         ["counts", file] => return println!("{}", speed::counts(file)),
         ["speed", file, times] => return println!("{}", speed::speed(file, times)),
+        ["jobs", file, times] => return println!("{}", speed::jobs(file, times)),
         ["tokens"] => tokens::all,
         ["numerals"] => numbers::numeral,
         ["decimals"] => numbers::decimal,
         ["outcomes"] => outcome::outcome,
         ["readings"] => outcome::reading,
         ["writings"] => outcome::writing,
-        _ => panic!("usage: lef21-oracle tokens | numerals | decimals | outcomes | readings | writings | counts FILE | speed FILE TIMES"),
+        _ => panic!("usage: lef21-oracle tokens | numerals | decimals | outcomes | readings | writings | counts FILE | speed FILE TIMES | jobs FILE TIMES"),
     };
     let stdin = std::io::stdin();
     let mut out = std::io::BufWriter::new(std::io::stdout());

@@ -1,0 +1,132 @@
+/* LEF text as a record file: reading, checking, writing and looking up.
+ *
+ * Every call returns the number of a refusal, or LEF_DONE, and leaves its other results behind the pointers given. A call that is
+ * refused has changed no buffer. The numbers, places and lines are those of the table "The refusals" below.
+ *
+ * What a caller owes: each pointer to a buffer points to as many bytes as the length beside it says, and is not null even where that
+ * length is 0; each pointer to a number points to a uint64_t; a buffer or number that is written overlaps nothing else that is handed
+ * to the same call. The calls keep no state and allocate nothing, so that any threads may call them at once. A call takes up to one
+ * megabyte of stack.
+ */
+#ifndef LEF_H
+#define LEF_H
+
+#include <stddef.h>
+#include <stdint.h>
+
+#ifdef __cplusplus
+extern "C" {
+#endif
+
+/* The longest text that is read, in bytes. */
+#define LEF_TEXT_LIMIT 16777216u
+
+/* A record: 36 bytes, little-endian, one after the other with no header. Where each field starts, and what it is. */
+#define LEF_RECORD_SIZE 36u
+#define LEF_KIND 0u         /* 8 bits */
+#define LEF_CODE 1u         /* 8 bits */
+#define LEF_SPARE 2u        /* 16 bits, 0 */
+#define LEF_AT 4u           /* 32 bits: where the statement's first token starts in the text */
+#define LEF_OWNER 8u        /* 32 bits: `at` of the record that encloses it, or LEF_LIBRARY */
+#define LEF_NAME_START 12u  /* 32 bits: where the name starts in the text */
+#define LEF_NAME_LENGTH 16u /* 32 bits: how many bytes it has */
+#define LEF_X 20u           /* 64 bits, two's complement: millionths */
+#define LEF_Y 28u           /* 64 bits, two's complement: millionths */
+
+/* The owner of a record that no other encloses. */
+#define LEF_LIBRARY 4294967295u
+
+/* The kinds of records, with the fields that they use beside `at` and owner. */
+#define LEF_VERSION               1u   /* x */
+#define LEF_BUSBITCHARS           2u   /* name: the two bytes between the quotes */
+#define LEF_DIVIDERCHAR           3u   /* name: the byte between the quotes */
+#define LEF_NAMESCASESENSITIVE    4u   /* code: 1 ON, 2 OFF */
+#define LEF_NOWIREEXTENSIONATPIN  5u   /* code: 1 ON, 2 OFF */
+#define LEF_UNITS                 6u
+#define LEF_DATABASE_MICRONS      7u   /* x */
+#define LEF_SITE                  8u   /* name */
+#define LEF_SITE_CLASS            9u   /* code: 1 PAD, 2 CORE */
+#define LEF_SYMMETRY              10u
+#define LEF_SYMMETRY_WORD         11u  /* code: 1 X, 2 Y, 3 R90 */
+#define LEF_SIZE                  12u  /* x, y */
+#define LEF_MACRO                 13u  /* name */
+#define LEF_MACRO_CLASS           14u  /* code: 1 to 26 */
+#define LEF_MACRO_SITE            15u  /* name */
+#define LEF_FOREIGN               16u  /* name; code 1: with the point x, y */
+#define LEF_ORIGIN                17u  /* x, y */
+#define LEF_PIN                   18u  /* name */
+#define LEF_DIRECTION             19u  /* code: 1 INPUT, 2 OUTPUT, 3 OUTPUT TRISTATE, 4 INOUT, 5 FEEDTHRU */
+#define LEF_USE                   20u  /* code: 1 SIGNAL, 2 ANALOG, 3 POWER, 4 GROUND, 5 CLOCK */
+#define LEF_SHAPE                 21u  /* code: 1 ABUTMENT, 2 RING, 3 FEEDTHRU */
+#define LEF_ANTENNAMODEL          22u  /* code: 1 to 4, OXIDE1 to OXIDE4 */
+#define LEF_ANTENNA               23u  /* code: 1 to 9; x; name: the layer, if one is given */
+#define LEF_PORT                  24u
+#define LEF_PORT_CLASS            25u  /* code: 1 NONE, 2 CORE, 3 BUMP */
+#define LEF_OBS                   26u
+#define LEF_LAYER                 27u  /* name */
+#define LEF_LAYER_OPTION          28u  /* code: 1 EXCEPTPGNET, 2 SPACING x, 3 DESIGNRULEWIDTH x */
+#define LEF_WIDTH                 29u  /* x */
+#define LEF_RECT                  30u
+#define LEF_POLYGON               31u
+#define LEF_PATH                  32u
+#define LEF_POINT                 33u  /* x, y */
+#define LEF_VIA                   34u  /* x, y, name */
+
+/* The kinds of tokens. */
+#define LEF_TOKEN_END 0u
+#define LEF_TOKEN_NAME 1u
+#define LEF_TOKEN_NUMBER 2u
+#define LEF_TOKEN_SEMICOLON 3u
+#define LEF_TOKEN_STRING 4u
+
+/* The refusals, with the place that each gives. The line, from 3 to 10, is that of the place, counted from 1, newlines between quotes
+ * not counted; else it is 0. The first in this order is given: 1, 2, the first of 3 to 10, then 13, 14, 15, then 11 or 12. */
+#define LEF_DONE                  0u   /* the count of records or of bytes written; 0 from lef_check */
+#define LEF_TOO_LONG              1u   /* 0 */
+#define LEF_NOT_ASCII             2u   /* the first byte above 127 */
+#define LEF_NO_TOKEN              3u   /* the byte that starts no token */
+#define LEF_WRONG_TOKEN           4u   /* from 4 to 10: the end of the token held ahead, or the text's length */
+#define LEF_NOT_A_KEY             5u
+#define LEF_NOT_ALLOWED           6u
+#define LEF_OTHER_WORD            7u
+#define LEF_NOT_SUPPORTED         8u
+#define LEF_NOT_A_NUMERAL         9u
+#define LEF_SITE_LACKS            10u
+#define LEF_RECORD_ROOM           11u  /* the records needed */
+#define LEF_TEXT_ROOM             12u  /* the bytes needed */
+#define LEF_NOT_WHOLE             13u  /* the length of the record bytes */
+#define LEF_WRONG_RECORD          14u  /* the index of the record that is foreign, or equal to an earlier one */
+#define LEF_LACKING               15u  /* the `at` of the record that is lacking */
+
+/* Reads the text: its records, by rising `at`, from the front of the buffer; the rest of the buffer keeps its bytes. *place is the
+ * count of records. 11 says how many there are where the buffer has no room for all of them: a buffer of length 0 counts them. */
+uint64_t lef_read(const uint8_t *text, size_t text_len, uint8_t *records, size_t records_len, uint64_t *place, uint64_t *line);
+
+/* Accepts the record file exactly where it holds the records of the reading, each once and no others, in any order. */
+uint64_t lef_check(const uint8_t *text, size_t text_len, const uint8_t *records, size_t records_len, uint64_t *place, uint64_t *line);
+
+/* Writes the records of a file that lef_check accepts as canonical text, from the front of `out`; the rest of `out` keeps its bytes.
+ * *place is the count of bytes. 12 says how many there are where `out` has no room for all of them. */
+uint64_t lef_write(const uint8_t *text, size_t text_len, const uint8_t *records, size_t records_len, uint8_t *out, size_t out_len, uint64_t *place,
+                   uint64_t *line);
+
+/* The first token from the place `from` on: its kind (LEF_TOKEN_END: the end of the text), where it starts and the place after it.
+ * Lines are counted from 1 at `from`. Refused 1, 2 or 3. */
+uint64_t lef_token(const uint8_t *text, size_t text_len, uint64_t from, uint64_t *kind, uint64_t *start, uint64_t *stop, uint64_t *place, uint64_t *line);
+
+/* The index of the record in force: of those with the owner and the kind (and the code, for LEF_LAYER_OPTION, where 2 and 3 count as
+ * one) the one with the greatest `at`; UINT64_MAX where there is none, and for kinds that all count. Refused 13. */
+uint64_t lef_in_force(const uint8_t *records, size_t records_len, uint64_t owner, uint64_t kind, uint64_t code, uint64_t *index, uint64_t *place, uint64_t *line);
+
+/* How many owners the record at the index has, from the one that encloses it out to the library's. Refused 13. */
+uint64_t lef_owners(const uint8_t *records, size_t records_len, uint64_t index, uint64_t *count, uint64_t *place, uint64_t *line);
+
+/* The name of the record at the index, as a part of the text: *len is 0 where it has none or its span reaches outside the text. Never
+ * refused. */
+uint64_t lef_name(const uint8_t *text, size_t text_len, const uint8_t *records, size_t records_len, uint64_t index, uint64_t *start, uint64_t *len);
+
+#ifdef __cplusplus
+}
+#endif
+
+#endif
