@@ -42,16 +42,15 @@ module _ (s file : List ℕ) (c : Refusal) (e : c ≡ checked (reading s) file) 
 
   module _ (h : c .number ≡ done) where
     -- a text that is refused has another number
-    reads : (o : Reading) → reading s ≡ o → (rs : List Record) × (reading s ≡ records rs)
-    reads (records rs) q = (rs, q)
-    reads (refusal-of r) q =
-        let z : c ≡ r = e ∙ rw q in
-        absurd (let l = refusal-low s r q in let m : r .number ≡ done = rw z at h in omega (arith, l .0))
-
     pub never-refused : (r : Refusal) → reading s ≡ refusal-of r → ⊥
     never-refused r q =
         let z : c ≡ r = e ∙ rw q in
-        let l = refusal-low s r q in let m : r .number ≡ done = rw z at h in omega (arith, l .0)
+        let m : r .number ≡ done = rw z at h in
+        omega (arith, refusal-low s r q .0)
+
+    reads : (o : Reading) → reading s ≡ o → (rs : List Record) × (reading s ≡ records rs)
+    reads (records rs) q = (rs, q)
+    reads (refusal-of r) q = absurd (never-refused r q)
 
     yes : accepted (checked (reading s) file) ≡ true
     yes = rw (← e) (eq-eqb (c .number) done h)

@@ -34,12 +34,7 @@ of-library p = go (eqb p library)
 pub of-block : (s : List ℕ) (f : Frame ℕ) (r : Record) (place p : ℕ) (x : Bool) → x ≡ same (some place) (ownerOf p) → p ≡ r .owner → f .at ≡ some place → x ≡ owns f (bare s r)
 of-block s f r place p x h e a = rw a (rw e at h)
 
--- LINES OF ONE TOKEN AND OF TWO
-
-pub one-token : {o o' o'' : List ℕ} {at m n : ℕ} (depth : ℕ) (t : Said)
-    → Put o at (text (indented depth (t ∷ []))) m o' → Put o' m (10 ∷ []) n o'' → Put o at (text (line depth (t ∷ []))) n o''
-unfolding line
-one-token depth t p q = pieces-then (indented depth (t ∷ [])) (newline ∷ []) p (line-ends q)
+-- LINES OF TWO TOKENS
 
 pub two-tokens : {o o' o'' e : List ℕ} {at m n k : ℕ} (depth : ℕ) (t u : Said)
     → Put o at (text (indented depth (t ∷ []))) m o' → Put o' m (text (spaced (u ∷ []))) n o'' → Put o'' n (10 ∷ []) k e

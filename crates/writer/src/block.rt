@@ -1,6 +1,6 @@
 // The innermost block: whether it has a record, and how it ends.
 ghost use mathlib.Core.Path.{_≡_};
-ghost use mathlib.Core.List.{List, [], _∷_, _++_};
+ghost use mathlib.Core.List.{List, [], _∷_};
 ghost use Prim.Native.Nat.{ℕ, _≤_};
 ghost use lib.ListN.{take, drop};
 ghost use Rattle.lexer.specs.Kinds as Kind;
@@ -17,6 +17,7 @@ use crate::line::end_line;
 use crate::line::end_statement;
 use crate::line::next_name;
 use crate::line::next_word;
+use crate::shape::word_line;
 use reader::state::Block;
 use reader::state::State;
 use record::Record;
@@ -66,22 +67,14 @@ pub(crate) fn write_closing(text: &[u8], st: State, out: &mut [u8], at: usize) -
         Block::Symmetry => end_statement(out, at),
         Block::Macro => end_name(text, 0, st.title, st.title_len, out, at),
         Block::Pin => end_name(text, 1, st.pin_title, st.pin_len, out, at),
-        Block::Port => end(2, out, at),
-        Block::Obs => end(1, out, at),
+        Block::Port => word_line(2, names::END, out, at),
+        Block::Obs => word_line(1, names::END, out, at),
         Block::Options => end_statement(out, at),
         Block::Layer => at,
         Block::Rect => end_statement(out, at),
         Block::Polygon => end_statement(out, at),
         Block::Path => end_statement(out, at),
     }
-}
-
-fn end(depth: usize, out: &mut [u8], at: usize) -> usize
-    requires { ⌜ depth ≤ 16 ⌝ }
-    ensures { λ r. ⌜ Put (now (out .entry)) at (bytesOf (line depth (word 9 ∷ []))) r (now (out .exit)) ⌝ }
-{
-    let p = begin(depth, names::END, out, at);
-    end_line(out, p)
 }
 
 fn end_word(k: u8, out: &mut [u8], at: usize) -> usize

@@ -25,10 +25,10 @@ returns-6 : tie.Need-returns-6
 returns-6 c = let a = c .before .before .before .before .before .before .before .before .args in put-as (ends-pin (a .text .now) (a .st) (c .before .before .before .before .enum-told6 .given .1)) (c .before .before .end-name3 .ensures)
 
 returns-7 : tie.Need-returns-7
-returns-7 c = let a = c .before .before .before .before .before .before .before .before .args in put-as (ends-port (a .text .now) (a .st) (c .before .before .before .before .enum-told7 .given .1)) (c .before .before .end .ensures)
+returns-7 c = let a = c .before .before .before .before .before .before .before .before .args in put-as (ends-port (a .text .now) (a .st) (c .before .before .before .before .enum-told7 .given .1)) (c .before .before .word-line .ensures)
 
 returns-8 : tie.Need-returns-8
-returns-8 c = let a = c .before .before .before .before .before .before .before .before .args in put-as (ends-obs (a .text .now) (a .st) (c .before .before .before .before .enum-told8 .given .1)) (c .before .before .end2 .ensures)
+returns-8 c = let a = c .before .before .before .before .before .before .before .before .args in put-as (ends-obs (a .text .now) (a .st) (c .before .before .before .before .enum-told8 .given .1)) (c .before .before .word-line2 .ensures)
 
 returns-9 : tie.Need-returns-9
 returns-9 c = let a = c .before .before .before .before .before .before .before .before .args in put-as (ends-options (a .text .now) (a .st) (c .before .before .before .before .enum-told9 .given .1)) (c .before .before .end-statement2 .ensures)
