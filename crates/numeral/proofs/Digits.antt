@@ -51,12 +51,13 @@ abbrev pub onward : ℕ → List ℕ → ℕ
 onward x [] = x
 onward x (b ∷ s) = onward (x * 10 + (b - 48)) s
 
-multiplied : (x d p v : ℕ) → (x * 10 + d) * p + v ≡ x * (p * 10) + (d * p + v)
-multiplied x d p v = omega arith
+-- x and a digit d after it, where k more follow
+pub one-more : (x d k : ℕ) → x * 10 ^ suc k + d * 10 ^ k ≡ (x * 10 + d) * 10 ^ k
+one-more x d k = rw pow-suc (omega arith)
 
 pub onward-value : (x : ℕ) (s : List ℕ) → onward x s ≡ x * 10 ^ length s + value s
 onward-value x [] = omega arith
-onward-value x (b ∷ s) = onward-value (x * 10 + (b - 48)) s ∙ rw pow-suc (multiplied x (b - 48) (10 ^ length s) (value s))
+onward-value x (b ∷ s) = omega (arith, onward-value (x * 10 + (b - 48)) s, one-more x (b - 48) (length s))
 
 pub onward-zero : (s : List ℕ) → onward 0 s ≡ value s
 onward-zero s = omega (arith, onward-value 0 s)

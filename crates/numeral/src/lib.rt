@@ -5,8 +5,8 @@ ghost use mathlib.Core.Path.{_≡_};
 ghost use mathlib.Core.Bool.{true, cond};
 ghost use lib.ListN.{length, drop};
 ghost use lib.Seq.{sets};
-ghost use Rattle.numeral.specs.Numeral.{numeralOf, limit, digit};
-ghost use Rattle.numeral.specs.Machine.{pushed, ended, zerosOf, decimalsOf, wholeOf};
+ghost use Rattle.numeral.specs.Numeral.{numeralOf, digit};
+ghost use Rattle.numeral.specs.Machine.{most, pushed, ended, zerosOf, decimalsOf, wholeOf};
 ghost use Rattle.numeral.specs.Shortest.{belowNought, sign, natural, fraction, shortest};
 ghost use Rattle.numeral.specs.Laid.{writtenOf, laid};
 ghost use Rattle.numeral.specs.Stored.{storedOf, valueOf};
@@ -25,9 +25,10 @@ pub enum Written {
 
 const LIMIT: u64 = 10000000000000;
 
-const MILLION: u64 = 1000000;
+// A whole part above this passes the limit, whatever follows it.
+const MOST: u64 = 10000000;
 
-const POWERS: [u64; 7] = [1, 10, 100, 1000, 10000, 100000, 1000000];
+const MILLION: u64 = 1000000;
 
 const GREATEST_WORD: u64 = 18446744073709551615;
 
@@ -38,14 +39,21 @@ fn is_digit(b: u8) -> bool
     (b'0' <= b) & (b <= b'9')
 }
 
-// `x` with one digit more, or one above the limit where that passes it.
-fn push(x: u64, b: u8) -> u64
-    requires { ⌜ (x ≤ limit + 1) × (digit b ≡ true) ⌝ }
-    ensures { λ r. ⌜ r ≡ pushed x b ⌝ }
+// The number that a digit stands for.
+fn digit_of(b: u8) -> u64
+    requires { ⌜ digit b ≡ true ⌝ }
+    ensures { λ r. ⌜ r ≡ b - 48 ⌝ }
 {
     let d = b - b'0';
-    let next = x * 10 + d as u64;
-    if next <= LIMIT { next } else { LIMIT + 1 }
+    d as u64
+}
+
+// `x` with one digit more.
+fn push(x: u64, b: u8) -> u64
+    requires { ⌜ (x ≤ most) × (digit b ≡ true) ⌝ }
+    ensures { λ r. ⌜ r ≡ pushed x b ⌝ }
+{
+    x * 10 + digit_of(b)
 }
 
 // Ten to the power k.
@@ -53,18 +61,24 @@ fn power(k: usize) -> u64
     requires { ⌜ k ≤ 6 ⌝ }
     ensures { λ r. ⌜ r ≡ 10 ^ k ⌝ }
 {
-    POWERS[k]
+    match k {
+        0 => 1,
+        1 => 10,
+        2 => 100,
+        3 => 1000,
+        4 => 10000,
+        5 => 100000,
+        _ => 1000000,
+    }
 }
 
-// The answer at the end of the bytes, where `room` more decimals would have counted.
-fn finish(negative: bool, empty: bool, room: usize, x: u64) -> Value
-    requires { ⌜ (x ≤ limit + 1) × (room ≤ 6) ⌝ }
-    ensures { λ v. ⌜ v ≡ ended negative empty room x ⌝ }
+// The answer at the end of the bytes, which come to m millionths.
+fn finish(negative: bool, empty: bool, m: u64) -> Value
+    ensures { λ v. ⌜ v ≡ ended negative empty m ⌝ }
 {
     if empty {
         return Value::Not;
     }
-    let m = x * power(room);
     if LIMIT < m {
         return Value::Not;
     }
@@ -74,9 +88,9 @@ fn finish(negative: bool, empty: bool, room: usize, x: u64) -> Value
     Value::Scaled(negative, m)
 }
 
-// The bytes past the sixth decimal.
+// The bytes past the sixth decimal of x millionths.
 fn zeros(part: &[u8], from: usize, negative: bool, x: u64) -> Value
-    requires { ⌜ (from ≤ length (now part)) × (x ≤ limit + 1) ⌝ }
+    requires { ⌜ from ≤ length (now part) ⌝ }
     ensures { λ v. ⌜ v ≡ zerosOf negative x (drop from (now (part .entry))) ⌝ }
 {
     let mut i = from;
@@ -86,17 +100,17 @@ fn zeros(part: &[u8], from: usize, negative: bool, x: u64) -> Value
         }
         i += 1;
     }
-    finish(negative, false, 0, x)
+    finish(negative, false, x)
 }
 
-// The bytes past the point.
+// The bytes past the point: `room` is how many decimals still count.
 fn decimals(part: &[u8], from: usize, negative: bool, none: bool, whole: u64) -> Value
-    requires { ⌜ (from ≤ length (now part)) × (whole ≤ limit + 1) ⌝ }
-    ensures { λ v. ⌜ v ≡ decimalsOf negative none 6 whole (drop from (now (part .entry))) ⌝ }
+    requires { ⌜ (from ≤ length (now part)) × (whole ≤ most) ⌝ }
+    ensures { λ v. ⌜ v ≡ decimalsOf negative none 6 (whole * 1000000) (drop from (now (part .entry))) ⌝ }
 {
     let mut empty = none;
     let mut room: usize = 6;
-    let mut x = whole;
+    let mut x = whole * MILLION;
     let mut i = from;
     while i < part.len() {
         if room == 0 {
@@ -106,12 +120,12 @@ fn decimals(part: &[u8], from: usize, negative: bool, none: bool, whole: u64) ->
         if !is_digit(b) {
             return Value::Not;
         }
-        x = push(x, b);
-        empty = false;
         room -= 1;
+        x = x + digit_of(b) * power(room);
+        empty = false;
         i += 1;
     }
-    finish(negative, empty, room, x)
+    finish(negative, empty, x)
 }
 
 // The numeral but for its minus.
@@ -131,10 +145,13 @@ fn unsigned(part: &[u8], from: usize, negative: bool) -> Value
             return Value::Not;
         }
         x = push(x, b);
+        if MOST < x {
+            return Value::Not;
+        }
         empty = false;
         i += 1;
     }
-    finish(negative, empty, 6, x)
+    finish(negative, empty, x * MILLION)
 }
 
 // Where the digits start.

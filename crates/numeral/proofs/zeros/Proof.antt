@@ -5,7 +5,6 @@ use mathlib.Core.Path.{_≡_, refl, _∙_}
 use borrow.Author.Tests.{eq-eqb, ne-eqb}
 use native.Mathlib.Omega.{arith}
 use native.Mathlib.Numerals.{add-one}
-use native.Mathlib.Nat.{mul-one}
 use lib.ListN.{length, drop, drop-of-length-le}
 use lib.Seq.{drop-cons}
 use Rattle.numeral.specs.Machine.{zerosOf}
@@ -54,7 +53,7 @@ returns-2 c =
     let part = c .before .before .before .before .args .part .now in
     let i = c .before .before .loop .i in
     let h : length part ≤ i = omega arith in
-    c .finish .ensures ∙ simp mul-one (rw (drop-of-length-le part h) at (c .before .before .loop .inv .1))
+    c .finish .ensures ∙ rw (drop-of-length-le part h) at (c .before .before .loop .inv .1)
 
 pub zeros-spec : {M : Type 1} → statement M
 zeros-spec =
