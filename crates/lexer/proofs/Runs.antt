@@ -6,7 +6,7 @@ use mathlib.Core.List.{List, [], _∷_}
 use native.Mathlib.Numerals.{add-one}
 use native.Mathlib.Omega.{arith}
 use lib.ListN.{length, drop, getD, drop-of-length-le, length-drop}
-use lib.Seq.{drop-cons, getD-drop}
+use lib.Seq.{drop-cons, drop-drop, getD-drop}
 use Rattle.lexer.specs.Run.{run, past}
 
 -- the list from a place on is the byte there and the list from the next place on
@@ -56,6 +56,27 @@ pub inside : (p : ℕ → Bool) (s : List ℕ) (i k : ℕ) → i ≤ k → k < p
 inside p s i k h g =
     let e : i + (k - i) ≡ k = omega arith in
     rw (getD-drop i s (k - i) 0, e) at (member p (drop i s) (k - i) (omega arith))
+
+-- where q holds of all that p holds of, the run of q ends where it ends from after the run of p on
+join : (p q : ℕ → Bool) → ((b : ℕ) → p b ≡ true → q b ≡ true) → (l : List ℕ) → run p l + run q (drop (run p l) l) ≡ run q l
+unfolding run
+join p q f [] = refl
+join p q f (b ∷ l) = go (p b) refl (join p q f l)
+  where
+    go : (t : Bool) → p b ≡ t → run p l + run q (drop (run p l) l) ≡ run q l → cond t (suc (run p l)) 0 + run q (drop (cond t (suc (run p l)) 0) (b ∷ l)) ≡ run q (b ∷ l)
+    go true e h = rw (f b e) (omega arith)
+    go false e h = omega arith
+
+pub through : (p q : ℕ → Bool) (s : List ℕ) (i : ℕ) → ((b : ℕ) → p b ≡ true → q b ≡ true) → past q s (past p s i) ≡ past q s i
+through p q s i f = rw (← drop-drop (run p (drop i s)) i s) (omega (arith, join p q f (drop i s)))
+
+-- the byte that ends a run is none of it
+pub ended : (p : ℕ → Bool) (s : List ℕ) (i : ℕ) → past p s i < length s → p (getD s (past p s i) 0) ≡ false
+ended p s i h = go (p (getD s (past p s i) 0)) refl
+  where
+    go : (t : Bool) → p (getD s (past p s i) 0) ≡ t → t ≡ false
+    go true e = absurd (omega (arith, on p s (past p s i) h e, through p p s i (λ b g. g)))
+    go false e = refl
 
 -- both tests of an `&` that holds
 pub both : (a b : Bool) → a && b ≡ true → (a ≡ true) × (b ≡ true)

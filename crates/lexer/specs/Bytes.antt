@@ -5,7 +5,7 @@ use lib.Dec.{leb, eqb}
 use Rattle.lexer.specs.declared.scan.Class.{Class}
 use Rattle.lexer.specs.declared.scan.Class.the-variants.{Letter, Space, Digit, SemiColon, NewLine, Quote, Hash, Other}
 use Rattle.lexer.specs.declared.scan.Run.{Run}
-use Rattle.lexer.specs.declared.scan.Run.the-variants.{Name, Number, StringLiteral, Comment, Ascii}
+use Rattle.lexer.specs.declared.scan.Run.the-variants.{Name, Digits, StringLiteral, Comment, Ascii}
 
 -- 'a' to 'z' and 'A' to 'Z'
 abbrev pub isLetter : ℕ → Bool
@@ -46,7 +46,7 @@ inComment b = not (isNewline b)
 -- what goes on in each run
 abbrev pub goesOn : Run → ℕ → Bool
 goesOn Name b = inName b
-goesOn Number b = inNumber b
+goesOn Digits b = isDigit b
 goesOn StringLiteral b = inString b
 goesOn Comment b = inComment b
 goesOn Ascii b = isAscii b

@@ -153,7 +153,7 @@ fn lex_number(text: &[u8], start: usize, line: usize) -> Lexed
     emit(
         Token::NUMBER,
         start,
-        scan::run_past(Run::Number, text, start + 1),
+        scan::number_past(text, start + 1),
         line,
     )
 }

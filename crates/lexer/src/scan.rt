@@ -21,7 +21,7 @@ pub enum Class {
 // What a run goes over.
 pub enum Run {
     Name,
-    Number,
+    Digits,
     StringLiteral,
     Comment,
     Ascii,
@@ -72,19 +72,12 @@ pub fn class_of(b: u8) -> Class
     }
 }
 
-// A number has more digits than points, so those are tested for first.
-fn in_number(b: u8) -> bool
-    ensures { λ r. ⌜ r ≡ inNumber b ⌝ }
-{
-    if is_digit(b) { true } else { b == b'.' }
-}
-
 fn goes_on(run: Run, b: u8) -> bool
     ensures { λ r. ⌜ r ≡ goesOn run b ⌝ }
 {
     match run {
         Run::Name => !(is_space(b) | (b == b'\n')),
-        Run::Number => in_number(b),
+        Run::Digits => is_digit(b),
         Run::StringLiteral => b != b'"',
         Run::Comment => b != b'\n',
         Run::Ascii => b <= 127,
@@ -100,6 +93,23 @@ pub fn run_past(run: Run, text: &[u8], at: usize) -> usize
         i += 1;
     }
     i
+}
+
+// The place after the digits and points that start at `at`. Most of them are digits, which have a loop of their own.
+pub fn number_past(text: &[u8], at: usize) -> usize
+    ensures { λ r. ⌜ r ≡ past inNumber (now (text .entry)) at ⌝ }
+{
+    let mut i = at;
+    loop {
+        i = run_past(Run::Digits, text, i);
+        if text.len() <= i {
+            break i;
+        }
+        if text[i] != b'.' {
+            break i;
+        }
+        i += 1;
+    }
 }
 
 // How many bytes are tested for ASCII at a time: the loop over a block never leaves early, so that the compiler can test many bytes at once.

@@ -1,4 +1,4 @@
--- `lex_number` meets its contract by those of `run_past` and `emit`.
+-- `lex_number` meets its contract by those of `number_past` and `emit`.
 use borrow.Author.Needs.{needs}
 use Rattle.lexer.proofs.lex_number.Statement.{statement}
 use Rattle.lexer.proofs.lex_number.Tie as tie

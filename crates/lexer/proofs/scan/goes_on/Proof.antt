@@ -8,7 +8,7 @@ goes-on-spec =
     tie.close
     (tie.spec (λ c. search needs) (λ c κs. search needs) (λ c. search needs) (λ c κs. search needs) (λ c. search needs) (λ c. search needs) (λ c. search needs)
     (λ c. rw (c .before .enum-told .given .1, c .is-space .ensures))
-    (λ c. rw (c .before .enum-told2 .given .1, c .in-number .ensures))
+    (λ c. rw (c .before .enum-told2 .given .1, c .is-digit .ensures))
     (λ c. rw (c .enum-told3 .given .1))
     (λ c. rw (c .enum-told4 .given .1))
     (λ c. rw (c .enum-told5 .given .1)))
