@@ -14,7 +14,7 @@ use Rattle.little.proofs.Laws.{drop-bytes}
 use Rattle.text.specs.Text.{bytes}
 use Rattle.word.specs.Words.{keys, values, words, upper, same, firstWhere, wordOf}
 use Rattle.word.specs.Lookup.{stems, nodes, nodeOf, marked, stretch, keyOf, placeIn, nextOf}
-use Rattle.word.proofs.Words.{clash, same-eq, same-refl}
+use Rattle.word.proofs.Words.{clash, same-eq, same-refl, upper-drop}
 use Rattle.word.proofs.Marked.{told}
 use Rattle.word.proofs.First.{look, agree, joined}
 use Rattle.word.proofs.Trie.{Lawful, Node, node-law, node-or-none, few, known}
@@ -86,6 +86,20 @@ module _ (v c : List ℕ) (a : Ahead v c) where
 
       alike : (j : ℕ) → j < length nodes → eqb (keyOf (getD nodes j [])) (nodeOf v + 256 * marked c) ≡ same (v ++ c) (getD nodes j [])
       alike j h = at (getD nodes j []) (node-law j h) (same (v ++ c) (getD nodes j [])) refl
+
+-- the keys have upper case only, so a stretch that leads to a node as it is written is in upper case
+pub as-written : (k : ℕ) (c : List ℕ) → k < 256 → Bytes c → (nextOf (k + 256 * marked c) ≡ 0 → ⊥) → upper c ≡ c
+unfolding nextOf keyOf
+as-written k c h bs z = ⊎-elim
+    (λ r. at (getD nodes (r .j) []) (node-law (r .j) (r .inside)) (eqb-true _ _ (r .holds)))
+    (λ r. absurd (z (rw known (placed 1 nodes (k + 256 * marked c) ∙ r .none))))
+    (look (λ w. eqb (keyOf w) (k + 256 * marked c)) 1 nodes)
+  where
+    at : (w : List ℕ) → Lawful w → keyOf w ≡ k + 256 * marked c → upper c ≡ c
+    at w l e =
+        let m : marked (drop (stretch w) w) ≡ marked c = omega (arith, e, few (take (stretch w) w)) in
+        let d : drop (stretch w) w ≡ c = told _ _ (drop-bytes (stretch w) w (l .whole)) bs m in
+        rw (← d) (upper-drop (stretch w) w ∙ ap (drop (stretch w)) (l .in-upper))
 
 -- a node's beginnings are nodes, so what begins with no node is none
 pub no-node : (u : List ℕ) (q : ℕ) → 0 < q → 6 * q < length u → nodeOf (take (6 * q) u) ≡ 0 → nodeOf u ≡ 0

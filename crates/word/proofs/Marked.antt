@@ -1,6 +1,7 @@
 -- Bytes as a number with a mark: one step of the sum, and that the number tells the bytes.
 use Prim.Native.Nat.{ℕ, suc, _+_, _-_, _*_, _^_, _≤_, _<_}
 use mathlib.Core.Path.{_≡_, refl}
+use mathlib.Core.Bool.{Bool, true, false, cond}
 use mathlib.Core.List.{List, [], _∷_}
 use native.Mathlib.Nat.{pow-suc, pow-le-pow-right}
 use native.Mathlib.Omega.{arith}
@@ -8,17 +9,27 @@ use lib.ListN.{length, take, drop, getD}
 use lib.Seq.{drop-cons}
 use Rattle.little.specs.Little.{Bytes}
 use Rattle.word.specs.Words.{raised, upper}
-use Rattle.word.specs.Lookup.{marked}
+use Rattle.word.specs.Lookup.{marked, cased}
+
+pub no-bytes : (raising : Bool) → marked (cased raising []) ≡ 1
+unfolding upper marked cased
+no-bytes true = refl
+no-bytes false = refl
+
+first : (raising : Bool) (b : ℕ) (c : List ℕ) → marked (cased raising (b ∷ c)) ≡ cond raising (raised b) b + 256 * marked (cased raising c)
+unfolding upper marked cased
+first true b c = refl
+first false b c = refl
 
 -- a stretch that starts one byte earlier
-pub earlier : (to i : ℕ) (l : List ℕ) → 0 < i → i ≤ to → to ≤ length l
-    → marked (upper (take (to - (i - 1)) (drop (i - 1) l))) ≡ raised (getD l (i - 1) 0) + 256 * marked (upper (take (to - i) (drop i l)))
-unfolding marked upper
-earlier to i l p h r =
+pub earlier : (raising : Bool) (to i : ℕ) (l : List ℕ) → 0 < i → i ≤ to → to ≤ length l
+    → marked (cased raising (take (to - (i - 1)) (drop (i - 1) l)))
+    ≡ cond raising (raised (getD l (i - 1) 0)) (getD l (i - 1) 0) + 256 * marked (cased raising (take (to - i) (drop i l)))
+earlier raising to i l p h r =
     let e : to - (i - 1) ≡ suc (to - i) = omega arith in
     let s : suc (i - 1) ≡ i = omega arith in
     let inside : i - 1 < length l = omega arith in
-    rw (e, drop-cons l (i - 1) 0 inside, s)
+    rw (e, drop-cons l (i - 1) 0 inside, s) (first raising (getD l (i - 1) 0) (take (to - i) (drop i l)))
 
 pub wider : (to i b s : ℕ) → 0 < i → i ≤ to → b < 256 → s < 2 * 256 ^ (to - i) → 256 * s + b < 2 * 256 ^ (to - (i - 1))
 wider to i b s p h q r =

@@ -10,7 +10,7 @@ use borrow.Author.Tests.{eq-eqb, leb-true, lt-leb}
 use lib.Dec.{eqb, leb}
 use lib.ListN.{length, take, getD}
 use Rattle.little.specs.Little.{Bytes}
-use Rattle.word.specs.Words.{keys, values, words, same, firstWhere}
+use Rattle.word.specs.Words.{keys, values, words, raised, upper, same, firstWhere}
 use Rattle.word.specs.Lookup.{stems, nodes, nodeOf, marked, stretch, keyOf, keyed}
 use Rattle.word.proofs.Words.{clash, same-eq, both}
 use Rattle.word.proofs.First.{look, all, each-of}
@@ -19,16 +19,17 @@ bytes-of : List ℕ → Bool
 bytes-of [] = true
 bytes-of (b ∷ w) = leb b 255 && bytes-of w
 
--- what is true of every node, by one test that computes: it has bytes, from one to thirty of them, and its beginnings of 6, 12,
--- 18 and 24 bytes are nodes
+-- what is true of every node, by one test that computes: it has bytes, from one to thirty of them, all in upper case,
+-- and its beginnings of 6, 12, 18 and 24 bytes are nodes
 begins : ℕ → List ℕ → Bool
 begins n w = leb (length w) n || not (eqb (nodeOf (take n w)) 0)
 
 lawful : List ℕ → Bool
-lawful w = bytes-of w && (leb 1 (length w) && (leb (length w) 30 && (begins 6 w && (begins 12 w && (begins 18 w && begins 24 w)))))
+lawful w =
+    bytes-of w && (leb 1 (length w) && (leb (length w) 30 && (same (upper w) w && (begins 6 w && (begins 12 w && (begins 18 w && begins 24 w))))))
 
 tested : all lawful nodes ≡ true
-unfolding keys values words same firstWhere stems nodes nodeOf bytes-of begins lawful
+unfolding keys values words raised upper same firstWhere stems nodes nodeOf bytes-of begins lawful
 tested = refl
 
 pub count : length nodes ≡ 154
@@ -50,6 +51,7 @@ pub record Lawful (w : List ℕ) : Type 0 where
   pub whole : Bytes w
   pub some : 1 ≤ length w
   pub short : length w ≤ 30
+  pub in-upper : upper w ≡ w
   pub begun : (q : ℕ) → 0 < q → 6 * q < length w → nodeOf (take (6 * q) w) ≡ 0 → ⊥
 
 begun-at : (n : ℕ) (w : List ℕ) → begins n w ≡ true → n < length w → nodeOf (take n w) ≡ 0 → ⊥
@@ -62,11 +64,18 @@ lawful-is w t =
     let t1 = both (bytes-of w) _ t in
     let t2 = both (leb 1 (length w)) _ (t1 .1) in
     let t3 = both (leb (length w) 30) _ (t2 .1) in
-    let t4 = both (begins 6 w) _ (t3 .1) in
-    let t5 = both (begins 12 w) _ (t4 .1) in
-    let t6 = both (begins 18 w) (begins 24 w) (t5 .1) in
+    let t4 = both (same (upper w) w) _ (t3 .1) in
+    let t5 = both (begins 6 w) _ (t4 .1) in
+    let t6 = both (begins 12 w) _ (t5 .1) in
+    let t7 = both (begins 18 w) (begins 24 w) (t6 .1) in
     let short : length w ≤ 30 = leb-true _ _ (t3 .0) in
-    record { whole = are-bytes w (t1 .0); some = leb-true _ _ (t2 .0); short = short; begun = begun short (t4 .0) (t5 .0) (t6 .0) (t6 .1) }
+    record {
+      whole = are-bytes w (t1 .0);
+      some = leb-true _ _ (t2 .0);
+      short = short;
+      in-upper = same-eq (upper w) w (t4 .0);
+      begun = begun short (t5 .0) (t6 .0) (t7 .0) (t7 .1);
+    }
   where
     begun : length w ≤ 30 → begins 6 w ≡ true → begins 12 w ≡ true → begins 18 w ≡ true → begins 24 w ≡ true
         → (q : ℕ) → 0 < q → 6 * q < length w → nodeOf (take (6 * q) w) ≡ 0 → ⊥

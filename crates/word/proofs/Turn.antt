@@ -10,7 +10,7 @@ use Rattle.little.specs.Little.{Bytes}
 use Rattle.little.proofs.Laws.{take-bytes, drop-bytes}
 use Rattle.word.specs.Words.{keys, values, words, upper, same, firstWhere}
 use Rattle.word.specs.Lookup.{stems, nodes, nodeOf, marked, keyed, placeIn, nextOf}
-use Rattle.word.proofs.Words.{upper-length, upper-at, raised-small}
+use Rattle.word.proofs.Words.{upper-at, raised-small}
 use Rattle.word.proofs.Lead.{Ahead, leads, no-node}
 
 -- the bytes before the place are a node, or none are passed; and before the end a whole number of stretches is passed
@@ -71,12 +71,7 @@ module _ (u : List ℕ) (at node : ℕ) (l : Led u at node) (h : at < length u) 
       ]
 
 -- bytes that are one stretch or none
-pub alone : (s : List ℕ) → Bytes s → length s ≤ 6 → nextOf (256 * marked (upper s)) ≡ nodeOf (upper s)
-unfolding keys values words upper same firstWhere stems nodes nodeOf keyed marked placeIn nextOf
+pub alone : (u : List ℕ) → Bytes u → length u ≤ 6 → nextOf (0 + 256 * marked u) ≡ nodeOf u
+unfolding keys values words same firstWhere stems nodes nodeOf keyed marked placeIn nextOf
 alone [] bs h = refl
-alone (b ∷ s) bs h =
-    let u : List ℕ = upper (b ∷ s) in
-    let e : 256 * marked u ≡ 0 + 256 * marked u = omega arith in
-    let n = upper-length (b ∷ s) in
-    ap nextOf e
-    ∙ leads [] u (record { q = 0; whole = refl; some = rw n (omega arith); short = rw n h; bytes = upper-bytes (b ∷ s) bs; begun = λ z. refl })
+alone (b ∷ u) bs h = leads [] (b ∷ u) (record { q = 0; whole = refl; some = omega arith; short = h; bytes = bs; begun = λ z. refl })

@@ -2,12 +2,12 @@
 -- lead from node to node.
 use Prim.Native.Nat.{ℕ, suc, _+_, _-_, _*_, _/_}
 use Prim.Native.String.{String}
-use mathlib.Core.Bool.{cond}
+use mathlib.Core.Bool.{Bool, cond}
 use mathlib.Core.List.{List, [], _∷_, _++_, map}
 use lib.Dec.{eqb}
 use lib.ListN.{length, take, drop}
 use Rattle.text.specs.Text.{bytes}
-use Rattle.word.specs.Words.{words, same, firstWhere}
+use Rattle.word.specs.Words.{words, upper, same, firstWhere}
 
 -- the beginnings of words, of 6, 12, 18 or 24 bytes, that are no words themselves
 unfoldable pub stems : List String
@@ -30,6 +30,10 @@ nodeOf v = firstWhere (same v) 1 nodes
 unfoldable pub marked : List ℕ → ℕ
 marked [] = 1
 marked (b ∷ c) = b + 256 * marked c
+
+-- bytes in upper case, or as they are written
+unfoldable pub cased : Bool → List ℕ → List ℕ
+cased raising c = cond raising (upper c) c
 
 -- how many bytes stand before a node's last stretch of at most six
 unfoldable pub stretch : List ℕ → ℕ

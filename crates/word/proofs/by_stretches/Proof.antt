@@ -1,5 +1,5 @@
 -- `word::by_stretches` meets its contract: turn by turn the node is that of the bytes passed, and at the end it is the word or none.
-use Prim.Native.Nat.{_+_, _-_, _*_, _≤_, min}
+use Prim.Native.Nat.{_+_, _-_, _*_, min}
 use mathlib.Core.Path.{_≡_, refl, sym, ap, _∙_}
 use borrow.Author.Needs.{needs}
 use native.Mathlib.Omega.{arith}
@@ -8,7 +8,6 @@ use lib.Seq.{take-all}
 use Rattle.word.specs.Words.{keys, values, words, upper, same, firstWhere}
 use Rattle.word.specs.Lookup.{stems, nodes, nodeOf, marked, nextOf}
 use Rattle.word.proofs.Words.{upper-length, upper-take, upper-drop}
-use Rattle.word.proofs.Trie.{few}
 use Rattle.word.proofs.Lead.{is-word, word-here}
 use Rattle.word.proofs.Turn.{Led, upper-bytes, on, over}
 use Rattle.word.proofs.by_stretches.Statement.{statement}
@@ -20,21 +19,17 @@ Inv-loop part at₀ node₀ at node = Led (upper part) at node
 abbrev μ-loop : tie.MeasureT-loop
 μ-loop part at₀ node₀ at node = length part - at
 
--- a node's number is small
-small : (c : tie.At-loop Inv-loop μ-loop) → c .loop .node ≤ 154
-small c = rw (c .loop .inv .number) (few (take (c .loop .at) (upper (c .before .before .args .part .now))))
-
 -- where the stretch leads, said of the raised bytes
-led : (c : tie.After-next Inv-loop μ-loop)
-    → c .next .result
-    ≡ nextOf (c .before .before .before .before .loop .node
-    + 256 * marked (take (c .before .before .stretch-end .result - c .before .before .before .before .loop .at)
-    (drop (c .before .before .before .before .loop .at) (upper (c .before .before .before .before .before .before .args .part .now)))))
+led : (c : tie.After-follow Inv-loop μ-loop)
+    → c .follow .result
+    ≡ nextOf (c .before .before .before .loop .node
+    + 256 * marked (take (c .before .stretch-end .result - c .before .before .before .loop .at)
+    (drop (c .before .before .before .loop .at) (upper (c .before .before .before .before .before .args .part .now)))))
 led c =
-    let l = c .before .before .before .before .loop in
-    let s = c .before .before .before .before .before .before .args .part .now in
-    c .next .ensures
-    ∙ ap (λ m. nextOf (l .node + 256 * m)) (c .before .stretch .ensures .0 ∙ ap marked (upper-take (c .before .before .stretch-end .result - l .at) (drop (l .at) s) ∙ ap (take (c .before .before .stretch-end .result - l .at)) (upper-drop (l .at) s)))
+    let l = c .before .before .before .loop in
+    let s = c .before .before .before .before .before .args .part .now in
+    let n = c .before .stretch-end .result - l .at in
+    c .follow .ensures ∙ ap (λ t. nextOf (l .node + 256 * marked t)) (upper-take n (drop (l .at) s) ∙ ap (take n) (upper-drop (l .at) s))
 
 -- the stretch ends at the place of the raised bytes
 ended : (c : tie.After-stretch-end Inv-loop μ-loop)
@@ -48,37 +43,25 @@ loop-holds c = record { within = omega arith; number = refl; q = 0; whole = λ h
 stretch-end-requires : tie.Need-stretch-end-requires Inv-loop μ-loop
 stretch-end-requires c κs = search needs
 
-cast-next : tie.Need-cast-next Inv-loop μ-loop
-cast-next c = omega (arith, small (c .before .before))
-
-stretch-requires : tie.Need-stretch-requires Inv-loop μ-loop
-stretch-requires c κs = omega arith
-
-mul-next : tie.Need-mul-next Inv-loop μ-loop
-mul-next c = omega arith
-
-add-next : tie.Need-add-next Inv-loop μ-loop
-add-next c = omega (arith, small (c .before .before .before))
-
-next-requires : tie.Need-next-requires Inv-loop μ-loop
-next-requires c κs = search needs
+follow-requires : tie.Need-follow-requires Inv-loop μ-loop
+follow-requires c κs = omega arith
 
 returns : tie.Need-returns Inv-loop μ-loop
 returns c =
-    let d = c .before .before in
+    let d = c .before in
     let l = d .before .before .before .loop in
     let s = d .before .before .before .before .before .args .part .now in
-    is-word s 0 (sym (over (upper s) (l .at) (l .node) (l .inv) (rw (upper-length s) (d .before .before .loop-test .taken)) (upper-bytes s (λ i. d .before .before .before .before .shared-slice-known .given i .fits)) (d .before .stretch-end .result) (ended (d .before)) (c .before .next .result) (led (c .before)) (c .if1 .taken))) (omega arith)
+    is-word s 0 (sym (over (upper s) (l .at) (l .node) (l .inv) (rw (upper-length s) (d .before .before .loop-test .taken)) (upper-bytes s (λ i. d .before .before .before .before .shared-slice-known .given i .fits)) (d .before .stretch-end .result) (ended (d .before)) (c .before .follow .result) (led (c .before)) (c .if1 .taken))) (omega arith)
 
 loop-less : tie.Need-loop-less Inv-loop μ-loop
 loop-less c = omega arith
 
 loop-again : tie.Need-loop-again Inv-loop μ-loop
 loop-again c =
-    let d = c .before .before in
+    let d = c .before in
     let l = d .before .before .before .loop in
     let s = d .before .before .before .before .before .args .part .now in
-    on (upper s) (l .at) (l .node) (l .inv) (rw (upper-length s) (d .before .before .loop-test .taken)) (upper-bytes s (λ i. d .before .before .before .before .shared-slice-known .given i .fits)) (d .before .stretch-end .result) (ended (d .before)) (c .before .next .result) (led (c .before)) (c .if1 .left)
+    on (upper s) (l .at) (l .node) (l .inv) (rw (upper-length s) (d .before .before .loop-test .taken)) (upper-bytes s (λ i. d .before .before .before .before .shared-slice-known .given i .fits)) (d .before .stretch-end .result) (ended (d .before)) (c .before .follow .result) (led (c .before)) (c .if1 .left)
 
 -- at the end the node is that of all the bytes
 whole : (c : tie.After-loop Inv-loop μ-loop) → c .before .loop .node ≡ nodeOf (upper (c .before .before .before .args .part .now))
@@ -101,11 +84,7 @@ by-stretches-spec =
     μ-loop
     loop-holds
     stretch-end-requires
-    cast-next
-    stretch-requires
-    mul-next
-    add-next
-    next-requires
+    follow-requires
     returns
     loop-less
     loop-again
