@@ -81,7 +81,7 @@ whyPeeked t (K.Refused r) = r
 
 -- the code's steps
 abbrev pub asStep : List ℕ → Step → T.Step ℕ Mark Entry
-asStep s (S.Gives r t) = T.gives (moveOf (r .kind)) (entryOf s r) (aheadOf s t)
+asStep s (S.Gives t r) = T.gives (moveOf (r .kind)) (entryOf s r) (aheadOf s t)
 asStep s (S.Ends t) = T.ends (aheadOf s t)
 asStep s (S.Goes t) = T.goes G.Layer (aheadOf s t)
 asStep s S.Back = T.backs

@@ -47,7 +47,7 @@ fn via_at(text: &[u8], held: Token, owner: usize, first: Token) -> Step
         return Step::Refused(take::taken_refusal(c));
     };
     let len = take::txt(text, title).len();
-    Step::Gives(Record::via(held.start, owner, x, y, title.start, len), next)
+    Step::Gives(next, Record::via(held.start, owner, x, y, title.start, len))
 }
 
 // A point of a POLYGON or a PATH, or the `;` that ends it, where no point may lack.
@@ -82,5 +82,5 @@ fn point(text: &[u8], held: Token, owner: usize) -> Step
     let Point::At(x, y, next) = a else {
         return Step::Refused(statement::point_refusal(a));
     };
-    Step::Gives(Record::point(held.start, owner, x, y), next)
+    Step::Gives(next, Record::point(held.start, owner, x, y))
 }

@@ -50,7 +50,7 @@ pub fn parse_options(text: &[u8], held: Token, owner: usize) -> Step
 fn except_pg_net(held: Token, first: Token, owner: usize) -> Step
     ensures { λ r. ⌜ ((s : List ℕ) (f : Frame ℕ) → f .at ≡ some owner → asStep s r ≡ filedStep (given stay (items 0 f (code EXCEPTPGNET ∷ []) (blank LAYER-OPTION f (aheadOf s held)) (aheadOf s first)))) ⌝ }
 {
-    Step::Gives(Record::except_pg_net(held.start, owner), first)
+    Step::Gives(first, Record::except_pg_net(held.start, owner))
 }
 
 // SPACING and its number.
@@ -61,7 +61,7 @@ fn spacing(text: &[u8], held: Token, first: Token, owner: usize) -> Step
     let Number::Value(x, next) = a else {
         return Step::Refused(statement::number_refusal(a));
     };
-    Step::Gives(Record::spacing(held.start, owner, x), next)
+    Step::Gives(next, Record::spacing(held.start, owner, x))
 }
 
 // DESIGNRULEWIDTH and its number.
@@ -72,7 +72,7 @@ fn design_rule_width(text: &[u8], held: Token, first: Token, owner: usize) -> St
     let Number::Value(x, next) = a else {
         return Step::Refused(statement::number_refusal(a));
     };
-    Step::Gives(Record::design_rule_width(held.start, owner, x), next)
+    Step::Gives(next, Record::design_rule_width(held.start, owner, x))
 }
 
 // A statement of a layer, which ends before a LAYER or an END.
@@ -103,7 +103,7 @@ fn width(text: &[u8], held: Token, owner: usize) -> Step
     let Number::Value(x, next) = a else {
         return Step::Refused(statement::number_refusal(a));
     };
-    Step::Gives(Record::width(held.start, owner, x), next)
+    Step::Gives(next, Record::width(held.start, owner, x))
 }
 
 // RECT, whose points follow: a mask or ITERATE is not supported.
@@ -118,7 +118,7 @@ fn rect(text: &[u8], held: Token, owner: usize) -> Step
     if kind == Token::NAME {
         return Step::Refused(take::complain(8, next));
     }
-    Step::Gives(Record::rect(held.start, owner), next)
+    Step::Gives(next, Record::rect(held.start, owner))
 }
 
 // POLYGON, whose points follow.
@@ -129,7 +129,7 @@ fn polygon(text: &[u8], held: Token, owner: usize) -> Step
     let Taken::Next(next) = a else {
         return Step::Refused(take::taken_refusal(a));
     };
-    Step::Gives(Record::polygon(held.start, owner), next)
+    Step::Gives(next, Record::polygon(held.start, owner))
 }
 
 // PATH, whose points follow.
@@ -140,5 +140,5 @@ fn path(text: &[u8], held: Token, owner: usize) -> Step
     let Taken::Next(next) = a else {
         return Step::Refused(take::taken_refusal(a));
     };
-    Step::Gives(Record::path(held.start, owner), next)
+    Step::Gives(next, Record::path(held.start, owner))
 }

@@ -56,7 +56,7 @@ fn lib_version(text: &[u8], held: Token) -> Step
     let Number::Value(x, next) = a else {
         return Step::Refused(statement::number_refusal(a));
     };
-    Step::Gives(Record::version(held.start, x), next)
+    Step::Gives(next, Record::version(held.start, x))
 }
 
 // Two bytes in quotes.
@@ -78,7 +78,7 @@ fn parse_bus_bit_chars(text: &[u8], held: Token) -> Step
     let Taken::Next(next) = c else {
         return Step::Refused(take::taken_refusal(c));
     };
-    Step::Gives(Record::bus_bit_chars(held.start, quoted.start + 1), next)
+    Step::Gives(next, Record::bus_bit_chars(held.start, quoted.start + 1))
 }
 
 // One byte in quotes.
@@ -100,7 +100,7 @@ fn parse_divider_char(text: &[u8], held: Token) -> Step
     let Taken::Next(next) = c else {
         return Step::Refused(take::taken_refusal(c));
     };
-    Step::Gives(Record::divider_char(held.start, quoted.start + 1), next)
+    Step::Gives(next, Record::divider_char(held.start, quoted.start + 1))
 }
 
 // NOWIREEXTENSIONATPIN, on or off.
@@ -111,7 +111,7 @@ fn no_wire_extension_at_pin(text: &[u8], held: Token) -> Step
     let Word::Is(code, next) = a else {
         return Step::Refused(statement::word_refusal(a));
     };
-    Step::Gives(Record::no_wire_extension_at_pin(held.start, code), next)
+    Step::Gives(next, Record::no_wire_extension_at_pin(held.start, code))
 }
 
 // NAMESCASESENSITIVE, on or off, up to version 5.4.
@@ -125,7 +125,7 @@ fn names_case_sensitive(text: &[u8], held: Token, version: u64) -> Step
     let Word::Is(code, next) = a else {
         return Step::Refused(statement::word_refusal(a));
     };
-    Step::Gives(Record::names_case_sensitive(held.start, code), next)
+    Step::Gives(next, Record::names_case_sensitive(held.start, code))
 }
 
 // UNITS, whose statements follow.
@@ -136,7 +136,7 @@ fn units(text: &[u8], held: Token) -> Step
     let Taken::Next(next) = a else {
         return Step::Refused(take::taken_refusal(a));
     };
-    Step::Gives(Record::units(held.start), next)
+    Step::Gives(next, Record::units(held.start))
 }
 
 // SITE and its name.
@@ -152,7 +152,7 @@ fn site(text: &[u8], held: Token) -> Step
         return Step::Refused(take::taken_refusal(b));
     };
     let len = take::txt(text, name).len();
-    Step::Gives(Record::site(held.start, name.start, len), next)
+    Step::Gives(next, Record::site(held.start, name.start, len))
 }
 
 // MACRO and its name.
@@ -168,7 +168,7 @@ fn lib_macro(text: &[u8], held: Token) -> Step
         return Step::Refused(take::taken_refusal(b));
     };
     let len = take::txt(text, name).len();
-    Step::Gives(Record::macro_(held.start, name.start, len), next)
+    Step::Gives(next, Record::macro_(held.start, name.start, len))
 }
 
 // END LIBRARY.

@@ -64,7 +64,7 @@ fn class(text: &[u8], held: Token, owner: usize) -> Step
     let Word::Is(code, next) = a else {
         return Step::Refused(statement::word_refusal(a));
     };
-    Step::Gives(Record::macro_class(held.start, owner, code), next)
+    Step::Gives(next, Record::macro_class(held.start, owner, code))
 }
 
 // The SITE of a macro, by its name.
@@ -81,8 +81,8 @@ fn site(text: &[u8], held: Token, owner: usize) -> Step
     };
     let len = take::txt(text, title).len();
     Step::Gives(
-        Record::macro_site(held.start, owner, title.start, len),
         next,
+        Record::macro_site(held.start, owner, title.start, len),
     )
 }
 
@@ -115,7 +115,7 @@ fn foreign_alone(text: &[u8], held: Token, owner: usize, cell: Token, more: Toke
         return Step::Refused(take::taken_refusal(a));
     };
     let len = take::txt(text, cell).len();
-    Step::Gives(Record::foreign(held.start, owner, cell.start, len), next)
+    Step::Gives(next, Record::foreign(held.start, owner, cell.start, len))
 }
 
 // The point after the name of FOREIGN's cell.
@@ -136,8 +136,8 @@ fn foreign_at(text: &[u8], held: Token, owner: usize, cell: Token, more: Token) 
     };
     let len = take::txt(text, cell).len();
     Step::Gives(
-        Record::foreign_at(held.start, owner, cell.start, len, x, y),
         next,
+        Record::foreign_at(held.start, owner, cell.start, len, x, y),
     )
 }
 
@@ -149,7 +149,7 @@ fn origin(text: &[u8], held: Token, owner: usize) -> Step
     let Point::At(x, y, next) = a else {
         return Step::Refused(statement::point_refusal(a));
     };
-    Step::Gives(Record::origin(held.start, owner, x, y), next)
+    Step::Gives(next, Record::origin(held.start, owner, x, y))
 }
 
 // SOURCE, which no version has that this library reads.
@@ -175,7 +175,7 @@ fn pin(text: &[u8], held: Token, owner: usize) -> Step
         return Step::Refused(take::taken_refusal(b));
     };
     let len = take::txt(text, name).len();
-    Step::Gives(Record::pin(held.start, owner, name.start, len), next)
+    Step::Gives(next, Record::pin(held.start, owner, name.start, len))
 }
 
 // OBS, whose layers follow.
@@ -186,5 +186,5 @@ fn obs(text: &[u8], held: Token, owner: usize) -> Step
     let Taken::Next(next) = a else {
         return Step::Refused(take::taken_refusal(a));
     };
-    Step::Gives(Record::obs(held.start, owner), next)
+    Step::Gives(next, Record::obs(held.start, owner))
 }

@@ -66,7 +66,7 @@ fn direction(text: &[u8], held: Token, owner: usize) -> Step
     let Word::Is(code, next) = a else {
         return Step::Refused(statement::word_refusal(a));
     };
-    Step::Gives(Record::direction(held.start, owner, code), next)
+    Step::Gives(next, Record::direction(held.start, owner, code))
 }
 
 // The USE of a pin.
@@ -77,7 +77,7 @@ fn pin_use(text: &[u8], held: Token, owner: usize) -> Step
     let Word::Is(code, next) = a else {
         return Step::Refused(statement::word_refusal(a));
     };
-    Step::Gives(Record::use_(held.start, owner, code), next)
+    Step::Gives(next, Record::use_(held.start, owner, code))
 }
 
 // The SHAPE of a pin.
@@ -88,7 +88,7 @@ fn shape(text: &[u8], held: Token, owner: usize) -> Step
     let Word::Is(code, next) = a else {
         return Step::Refused(statement::word_refusal(a));
     };
-    Step::Gives(Record::shape(held.start, owner, code), next)
+    Step::Gives(next, Record::shape(held.start, owner, code))
 }
 
 // The ANTENNAMODEL of a pin.
@@ -99,7 +99,7 @@ fn antenna_model(text: &[u8], held: Token, owner: usize) -> Step
     let Word::Is(code, next) = a else {
         return Step::Refused(statement::word_refusal(a));
     };
-    Step::Gives(Record::antenna_model(held.start, owner, code), next)
+    Step::Gives(next, Record::antenna_model(held.start, owner, code))
 }
 
 // An antenna amount, with its layer if one is given.
@@ -130,7 +130,7 @@ fn antenna_alone(text: &[u8], held: Token, owner: usize, code: u8, x: u64, more:
     let Taken::Next(next) = a else {
         return Step::Refused(take::taken_refusal(a));
     };
-    Step::Gives(Record::antenna(held.start, owner, code, x, 0, 0), next)
+    Step::Gives(next, Record::antenna(held.start, owner, code, x, 0, 0))
 }
 
 // The layer of an antenna amount.
@@ -147,8 +147,8 @@ fn antenna_layer(text: &[u8], held: Token, owner: usize, code: u8, x: u64, more:
     };
     let len = take::txt(text, layer).len();
     Step::Gives(
-        Record::antenna(held.start, owner, code, x, layer.start, len),
         next,
+        Record::antenna(held.start, owner, code, x, layer.start, len),
     )
 }
 
@@ -160,5 +160,5 @@ fn port(text: &[u8], held: Token, owner: usize) -> Step
     let Taken::Next(next) = a else {
         return Step::Refused(take::taken_refusal(a));
     };
-    Step::Gives(Record::port(held.start, owner), next)
+    Step::Gives(next, Record::port(held.start, owner))
 }

@@ -42,7 +42,7 @@ fn class(text: &[u8], held: Token, owner: usize) -> Step
     let Word::Is(code, next) = a else {
         return Step::Refused(statement::word_refusal(a));
     };
-    Step::Gives(Record::port_class(held.start, owner, code), next)
+    Step::Gives(next, Record::port_class(held.start, owner, code))
 }
 
 // A layer of the obstructions, or their end.

@@ -34,7 +34,7 @@ pub fn symmetry(text: &[u8], held: Token, owner: usize) -> Step
     let Taken::Next(next) = a else {
         return Step::Refused(take::taken_refusal(a));
     };
-    Step::Gives(Record::symmetry(held.start, owner), next)
+    Step::Gives(next, Record::symmetry(held.start, owner))
 }
 
 // The SIZE of a site or a macro.
@@ -45,7 +45,7 @@ pub fn size(text: &[u8], held: Token, owner: usize) -> Step
     let Point::At(x, y, next) = a else {
         return Step::Refused(statement::point_refusal(a));
     };
-    Step::Gives(Record::size(held.start, owner, x, y), next)
+    Step::Gives(next, Record::size(held.start, owner, x, y))
 }
 
 // LAYER and its name, in a port or among the obstructions.
@@ -61,7 +61,7 @@ pub fn layer(text: &[u8], held: Token, owner: usize) -> Step
         return Step::Refused(take::taken_refusal(b));
     };
     let len = take::txt(text, name).len();
-    Step::Gives(Record::layer(held.start, owner, name.start, len), next)
+    Step::Gives(next, Record::layer(held.start, owner, name.start, len))
 }
 
 // END, by itself.

@@ -56,7 +56,7 @@ fn class(text: &[u8], held: Token, owner: usize) -> Step
     let Word::Is(code, next) = a else {
         return Step::Refused(statement::word_refusal(a));
     };
-    Step::Gives(Record::site_class(held.start, owner, code), next)
+    Step::Gives(next, Record::site_class(held.start, owner, code))
 }
 
 // END and the name of the site, which must then lack nothing.
@@ -89,5 +89,5 @@ pub fn parse_symmetries(text: &[u8], held: Token, owner: usize) -> Step
     let Word::Is(code, next) = a else {
         return Step::Refused(statement::word_refusal(a));
     };
-    Step::Gives(Record::symmetry_word(held.start, owner, code), next)
+    Step::Gives(next, Record::symmetry_word(held.start, owner, code))
 }

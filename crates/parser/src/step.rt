@@ -12,8 +12,8 @@ use record::Record;
 use refusal::Refusal;
 
 pub enum Step {
-    // A record of the block, and the token then held.
-    Gives(Record, Token),
+    // The token then held, and a record of the block.
+    Gives(Token, Record),
     // The block has ended.
     Ends(Token),
     // The options of a LAYER have ended, and its body begins.

@@ -50,7 +50,7 @@ fn database(text: &[u8], held: Token, first: Token, owner: usize) -> Step
     let Number::Value(x, next) = a else {
         return Step::Refused(statement::number_refusal(a));
     };
-    Step::Gives(Record::database_microns(held.start, owner, x), next)
+    Step::Gives(next, Record::database_microns(held.start, owner, x))
 }
 
 // The word UNITS after END.

@@ -119,3 +119,11 @@ outer-tag b h = not-true (leb 6 (numberOf b)) (rw (← (tag-number b)) (among-al
     not-true : (c : Bool) → not c ≡ true → c ≡ false
     not-true true e = absurd (false≢true e)
     not-true false e = refl
+
+-- the blocks of points that a `;` ends
+by-tag : (b : Block) (n : ℕ) → tagOf the-type b ≡ n → b ≡ numbered n
+by-tag b n e = sym (of-number b) ∙ ap numbered (sym (tag-number b) ∙ e)
+
+pub pointed : (b : Block) → OneOf (11 ∷ 12 ∷ []) (tagOf the-type b) → (b ≡ B.Polygon) ⊎ (b ≡ B.Path)
+pointed b (inl e) = inl (by-tag b 11 e)
+pointed b (inr e) = inr (by-tag b 12 e)

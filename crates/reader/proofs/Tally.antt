@@ -103,7 +103,7 @@ pub record Emits (s : List ℕ) (st : State) (r : Record) (to : State) : Type 0 
   pub falls : left s to < left s st
 
 module _ (s : List ℕ) (st : State) (e : Step) (h : Makes s st e) where
-  pub emits : (r : Record) (t : Token) → e ≡ S.Gives r t → (to : State) → (to .held ≡ t) × ((s : List ℕ) → fits (st .block) (r .kind) ≡ true → stateOf s to ≡ afterIn s st r) → Emits s st r to
+  pub emits : (r : Record) (t : Token) → e ≡ S.Gives t r → (to : State) → (to .held ≡ t) × ((s : List ℕ) → fits (st .block) (r .kind) ≡ true → stateOf s to ≡ afterIn s st r) → Emits s st r to
   emits r t g to a =
       let q = gives-turn s st r t (rw g at h) to a in
       let l = less s st _ q in

@@ -131,9 +131,9 @@ module _ (s : List ℕ) (o : State) where
   pub made-fits : (e : Step) → Makes e → Fits (o .block) (asStep s e)
   made-fits e h = rw h (step-fits s (o .version) (frameOf s o (o .block)) (o .held) (o .block))
 
-  pub gives-turn : (r : Record) (t : Token) → Makes (S.Gives r t) → (q : State) → (q .held ≡ t) × ((s : List ℕ) → fits (o .block) (r .kind) ≡ true → stateOf s q ≡ afterIn s o r)
+  pub gives-turn : (r : Record) (t : Token) → Makes (S.Gives t r) → (q : State) → (q .held ≡ t) × ((s : List ℕ) → fits (o .block) (r .kind) ≡ true → stateOf s q ≡ afterIn s o r)
       → turnOf ≡ T.emit r (stateOf s q) (aheadOf s (q .held))
-  gives-turn r t h q a = turn-of s o (asStep s (S.Gives r t)) h ∙ sym (ap₂ (λ x y. T.emit r x (aheadOf s y)) (a .1 s (made-fits (S.Gives r t) h)) (a .0))
+  gives-turn r t h q a = turn-of s o (asStep s (S.Gives t r)) h ∙ sym (ap₂ (λ x y. T.emit r x (aheadOf s y)) (a .1 s (made-fits (S.Gives t r) h)) (a .0))
 
   pub ends-turn : (t : Token) → Makes (S.Ends t) → eqb (numberOf (o .block)) 0 ≡ false → (q : State) → q ≡ movedTo (firstOf (around o (o .block))) t o
       → turnOf ≡ T.moved (stateOf s q) (aheadOf s (q .held))

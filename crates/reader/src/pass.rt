@@ -55,7 +55,7 @@ pub fn pass(text: &[u8], start: State, file: &mut [u8], most: usize) -> Passed
             turn::outer_step(text, st)
         };
         match step {
-            Step::Gives(r, next) => {
+            Step::Gives(next, r) => {
                 file::put(r, file, n);
                 n += 1;
                 st = st.after(r, next);

@@ -23,31 +23,35 @@ pub enum Block {
     Path,
 }
 
+// The whole words stand first: what pads a byte is copied in pieces.
 pub struct State {
     pub held: Token,
     // The version, in millionths.
     pub version: u64,
-    // The innermost block.
-    pub block: Block,
     // Where the UNITS, SITE or MACRO starts, and its name.
     pub outer: usize,
     pub title: usize,
     pub title_len: usize,
-    // What the SITE lacks.
-    pub classless: bool,
-    pub sizeless: bool,
     // Where the PIN starts, and its name.
     pub pin: usize,
     pub pin_title: usize,
     pub pin_len: usize,
-    // Where the PORT or OBS starts, and whether the LAYER in it is a port's.
+    // Where the PORT or OBS starts.
     pub inner: usize,
-    pub in_port: bool,
     // Where the LAYER starts.
     pub layer: usize,
-    // Where the SYMMETRY, RECT, POLYGON or PATH starts, whether the SYMMETRY is a site's, and the points still lacking.
+    // Where the SYMMETRY, RECT, POLYGON or PATH starts.
     pub part: usize,
+    // The innermost block.
+    pub block: Block,
+    // What the SITE lacks.
+    pub classless: bool,
+    pub sizeless: bool,
+    // Whether the LAYER is a port's.
+    pub in_port: bool,
+    // Whether the SYMMETRY is a site's.
     pub in_site: bool,
+    // The points still lacking.
     pub wants: u8,
 }
 

@@ -28,8 +28,7 @@ pub fn inner_step(text: &[u8], st: State) -> Step
         Block::Options => layer::parse_options(text, held, st.layer),
         Block::Layer => layer::parse_layer_geometries(text, held, st.layer),
         Block::Rect => geometry::parse_rect(text, held, st.part, st.wants),
-        Block::Polygon => geometry::parse_point_list(text, held, st.part, st.wants),
-        Block::Path => geometry::parse_point_list(text, held, st.part, st.wants),
+        Block::Polygon | Block::Path => geometry::parse_point_list(text, held, st.part, st.wants),
         _ => Step::Back,
     }
 }
