@@ -1,15 +1,20 @@
 // Numerals: what one says in millionths, the shortest one of a value and where it goes in a buffer, and the word of 64
 // bits that a record stores for a value.
-ghost use Prim.Native.Nat.{_≤_, _<_, _+_, _-_, _*_, _^_};
+ghost use Prim.Native.Nat.{_≤_, _-_, _*_, _^_};
 ghost use mathlib.Core.Path.{_≡_};
 ghost use mathlib.Core.Bool.{true, cond};
 ghost use lib.ListN.{length, drop};
-ghost use lib.Seq.{sets};
 ghost use Rattle.numeral.specs.Numeral.{numeralOf, digit};
 ghost use Rattle.numeral.specs.Machine.{most, pushed, ended, zerosOf, decimalsOf, wholeOf};
-ghost use Rattle.numeral.specs.Shortest.{belowNought, sign, natural, fraction, shortest};
+ghost use Rattle.numeral.specs.Shortest.{belowNought, shortest};
 ghost use Rattle.numeral.specs.Laid.{writtenOf, laid};
 ghost use Rattle.numeral.specs.Stored.{storedOf, valueOf};
+use laid::fraction_width;
+use laid::lay;
+use laid::natural_width;
+use laid::sign_width;
+
+mod laid;
 
 // What a numeral says: whether it is below nought, and its magnitude in millionths; or that it is no numeral.
 pub enum Value {
@@ -28,7 +33,7 @@ const LIMIT: u64 = 10000000000000;
 // A whole part above this passes the limit, whatever follows it.
 const MOST: u64 = 10000000;
 
-const MILLION: u64 = 1000000;
+pub(crate) const MILLION: u64 = 1000000;
 
 const GREATEST_WORD: u64 = 18446744073709551615;
 
@@ -57,7 +62,7 @@ fn push(x: u64, b: u8) -> u64
 }
 
 // Ten to the power k.
-fn power(k: usize) -> u64
+pub(crate) fn power(k: usize) -> u64
     requires { ⌜ k ≤ 6 ⌝ }
     ensures { λ r. ⌜ r ≡ 10 ^ k ⌝ }
 {
@@ -173,7 +178,7 @@ pub fn numeral(part: &[u8]) -> Value
 }
 
 // Whether a number is below nought: minus nought is not.
-fn below_nought(negative: bool, m: u64) -> bool
+pub(crate) fn below_nought(negative: bool, m: u64) -> bool
     ensures { λ r. ⌜ r ≡ belowNought negative m ⌝ }
 {
     negative & (m != 0)
@@ -199,45 +204,6 @@ pub fn value_of(word: u64) -> Value
     Value::Scaled(true, GREATEST_WORD - word + 1)
 }
 
-// How many bytes the minus takes.
-fn sign_width(negative: bool, m: u64) -> usize
-    ensures { λ r. ⌜ r ≡ length (sign negative m) ⌝ }
-{
-    if below_nought(negative, m) {
-        return 1;
-    }
-    0
-}
-
-// How many bytes the digits of n take.
-fn natural_width(n: u64) -> usize
-    ensures { λ r. ⌜ r ≡ length (natural 19 n) ⌝ }
-{
-    let mut rest = n;
-    let mut w: usize = 1;
-    while 10 <= rest {
-        rest = rest / 10;
-        w += 1;
-    }
-    w
-}
-
-// How many bytes the decimals of f millionths take.
-fn fraction_width(f: u64) -> usize
-    requires { ⌜ f < 1000000 ⌝ }
-    ensures { λ r. ⌜ r ≡ length (fraction 6 f) ⌝ }
-{
-    let mut k = 6;
-    let mut rest = f;
-    let mut w: usize = 0;
-    while 0 < rest {
-        k -= 1;
-        rest = rest % power(k);
-        w += 1;
-    }
-    w
-}
-
 // The length of the shortest numeral of m millionths.
 pub fn width(negative: bool, m: u64) -> usize
     ensures { λ r. ⌜ r ≡ length (shortest negative m) ⌝ }
@@ -249,78 +215,6 @@ pub fn width(negative: bool, m: u64) -> usize
         return s + n;
     }
     s + n + 1 + fraction_width(f)
-}
-
-// The byte of a digit.
-fn glyph(d: u64) -> u8
-    requires { ⌜ d < 10 ⌝ }
-    ensures { λ r. ⌜ r ≡ 48 + d ⌝ }
-{
-    b'0' + d as u8
-}
-
-// Lays a minus at `at` where the number is below nought, and answers the place after it.
-fn lay_sign(negative: bool, m: u64, out: &mut [u8], at: usize) -> usize
-    requires { ⌜ at + length (sign negative m) ≤ length (now out) ⌝ }
-    ensures { λ r. ⌜ r ≡ at + length (sign negative m) ⌝ }
-    ensures { λ r. ⌜ now (out .exit) ≡ sets (now (out .entry)) at (sign negative m) ⌝ }
-{
-    if below_nought(negative, m) {
-        out[at] = b'-';
-        return at + 1;
-    }
-    at
-}
-
-// Lays the digits of n at `at`, and answers the place after them.
-fn lay_natural(n: u64, out: &mut [u8], at: usize) -> usize
-    requires { ⌜ at + length (natural 19 n) ≤ length (now out) ⌝ }
-    ensures { λ r. ⌜ r ≡ at + length (natural 19 n) ⌝ }
-    ensures { λ r. ⌜ now (out .exit) ≡ sets (now (out .entry)) at (natural 19 n) ⌝ }
-{
-    if n < 10 {
-        out[at] = glyph(n);
-        return at + 1;
-    }
-    let p = lay_natural(n / 10, out, at);
-    out[p] = glyph(n % 10);
-    p + 1
-}
-
-// Lays the decimals of f millionths at `at`, and answers the place after them.
-fn lay_fraction(f: u64, out: &mut [u8], at: usize) -> usize
-    requires { ⌜ f < 1000000 ⌝ }
-    requires { ⌜ at + length (fraction 6 f) ≤ length (now out) ⌝ }
-    ensures { λ r. ⌜ r ≡ at + length (fraction 6 f) ⌝ }
-    ensures { λ r. ⌜ now (out .exit) ≡ sets (now (out .entry)) at (fraction 6 f) ⌝ }
-{
-    let mut k = 6;
-    let mut rest = f;
-    let mut p = at;
-    while 0 < rest {
-        k -= 1;
-        let unit = power(k);
-        out[p] = glyph(rest / unit);
-        rest = rest % unit;
-        p += 1;
-    }
-    p
-}
-
-// Lays the shortest numeral of m millionths at `at`, and answers the place after it.
-fn lay(negative: bool, m: u64, out: &mut [u8], at: usize) -> usize
-    requires { ⌜ at + length (shortest negative m) ≤ length (now out) ⌝ }
-    ensures { λ r. ⌜ r ≡ at + length (shortest negative m) ⌝ }
-    ensures { λ r. ⌜ now (out .exit) ≡ sets (now (out .entry)) at (shortest negative m) ⌝ }
-{
-    let p = lay_sign(negative, m, out, at);
-    let q = lay_natural(m / MILLION, out, p);
-    let f = m % MILLION;
-    if f == 0 {
-        return q;
-    }
-    out[q] = b'.';
-    lay_fraction(f, out, q + 1)
 }
 
 // Puts the shortest numeral of m millionths into a buffer, from `at` on.

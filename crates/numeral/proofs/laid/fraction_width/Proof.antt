@@ -1,4 +1,4 @@
--- `numeral::fraction_width` meets its contract. The loop's invariant: the decimals that are left, and those that are counted.
+-- `numeral::laid::fraction_width` meets its contract. The loop's invariant: the decimals that are left, and those that are counted.
 -- The measure is the places that are left.
 use Prim.Native.Nat.{_≤_, _<_, _+_, _-_, _%_, _^_}
 use mathlib.Core.Path.{_≡_, ap}
@@ -10,8 +10,8 @@ use Rattle.numeral.specs.Shortest.{fraction}
 use Rattle.numeral.proofs.Digits.{power-pos}
 use Rattle.numeral.proofs.Parts.{fraction-none, turn}
 use Rattle.numeral.proofs.Short.{fraction-length}
-use Rattle.numeral.proofs.fraction_width.Statement.{statement}
-use Rattle.numeral.proofs.fraction_width.Tie as tie
+use Rattle.numeral.proofs.laid.fraction_width.Statement.{statement}
+use Rattle.numeral.proofs.laid.fraction_width.Tie as tie
 
 abbrev Inv-loop : tie.InvT-loop
 Inv-loop f k₀ rest₀ w₀ k rest w =

@@ -1,8 +1,8 @@
--- `numeral::sign_width` meets its contract: the test says whether there is a minus.
+-- `numeral::laid::sign_width` meets its contract: the test says whether there is a minus.
 use mathlib.Core.Path.{sym, _∙_}
 use borrow.Author.Needs.{needs}
-use Rattle.numeral.proofs.sign_width.Statement.{statement}
-use Rattle.numeral.proofs.sign_width.Tie as tie
+use Rattle.numeral.proofs.laid.sign_width.Statement.{statement}
+use Rattle.numeral.proofs.laid.sign_width.Tie as tie
 
 pub sign-width-spec : {M : Type 1} → statement M
 sign-width-spec =

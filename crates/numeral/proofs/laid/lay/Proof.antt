@@ -1,11 +1,11 @@
--- `numeral::lay` meets its contract: the sign, the whole part, and the decimals after a point where there are any.
+-- `numeral::laid::lay` meets its contract: the sign, the whole part, and the decimals after a point where there are any.
 use mathlib.Core.Path.{_∙_}
 use borrow.Author.Needs.{needs}
 use native.Mathlib.Omega.{arith}
 use lib.ListN.{length-set}
 use Rattle.numeral.proofs.Parts.{length-shortest, length-pointed, no-decimals, some-decimals}
-use Rattle.numeral.proofs.lay.Statement.{statement}
-use Rattle.numeral.proofs.lay.Tie as tie
+use Rattle.numeral.proofs.laid.lay.Statement.{statement}
+use Rattle.numeral.proofs.laid.lay.Tie as tie
 
 pub lay-spec : {M : Type 1} → statement M
 lay-spec =

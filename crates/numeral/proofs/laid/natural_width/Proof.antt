@@ -1,4 +1,4 @@
--- `numeral::natural_width` meets its contract. The loop's invariant: the digits that are left, and those that are counted.
+-- `numeral::laid::natural_width` meets its contract. The loop's invariant: the digits that are left, and those that are counted.
 -- The measure is the number.
 use Prim.Native.Nat.{_≤_, _+_}
 use mathlib.Core.Path.{_≡_, ap}
@@ -7,8 +7,8 @@ use lib.ListN.{length}
 use Rattle.numeral.specs.Shortest.{natural}
 use Rattle.numeral.proofs.Parts.{whole-small, whole-large-length}
 use Rattle.numeral.proofs.Short.{natural-length}
-use Rattle.numeral.proofs.natural_width.Statement.{statement}
-use Rattle.numeral.proofs.natural_width.Tie as tie
+use Rattle.numeral.proofs.laid.natural_width.Statement.{statement}
+use Rattle.numeral.proofs.laid.natural_width.Tie as tie
 
 abbrev Inv-loop : tie.InvT-loop
 Inv-loop n rest₀ w₀ rest w = (rest ≤ n) × (w + length (natural 19 rest) ≡ length (natural 19 n) + 1)

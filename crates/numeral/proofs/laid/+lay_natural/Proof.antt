@@ -1,4 +1,4 @@
--- `numeral::lay_natural` meets its contract: the digits before the last, and the last. The measure is the number.
+-- `numeral::laid::lay_natural` meets its contract: the digits before the last, and the last. The measure is the number.
 use Prim.Native.Nat.{ℕ, _<_, _≤_, _^_}
 use mathlib.Core.Path.{ap}
 use borrow.Author.Needs.{needs}
@@ -7,12 +7,12 @@ use lib.ListN.{length}
 use Rattle.numeral.proofs.Parts.{sets-append, whole-small, whole-large, whole-large-length}
 use borrow.Fn.Kinds.{In}
 use borrow.Fn.PlainCycle.{Measures, is, falls, and}
-use Rattle.numeral.proofs.lay_natural.Reads as lay-natural
-use Rattle.numeral.proofs.lay_natural.Kinds as lay-natural-kinds
-use Rattle.numeral.proofs.+lay_natural.Lts-lay_natural as lay-natural-lts
-use Rattle.numeral.proofs.glyph.Reads as glyph-reads
-use Rattle.numeral.proofs.+lay_natural.{statement}
-use Rattle.numeral.proofs.+lay_natural.Tie.{close}
+use Rattle.numeral.proofs.laid.lay_natural.Reads as lay-natural
+use Rattle.numeral.proofs.laid.lay_natural.Kinds as lay-natural-kinds
+use Rattle.numeral.proofs.laid.+lay_natural.Lts-lay_natural as lay-natural-lts
+use Rattle.numeral.proofs.laid.glyph.Reads as glyph-reads
+use Rattle.numeral.proofs.laid.+lay_natural.{statement}
+use Rattle.numeral.proofs.laid.+lay_natural.Tie.{close}
 
 abbrev μ-lay-natural : Measures 1 lay-natural-kinds.ps ℕ
 μ-lay-natural κs a = a .0

@@ -1,12 +1,12 @@
--- `numeral::lay_sign` meets its contract: the test says whether there is a minus.
+-- `numeral::laid::lay_sign` meets its contract: the test says whether there is a minus.
 use mathlib.Core.Path.{_≡_, sym, _∙_}
 use mathlib.Core.Bool.{true, false}
 use borrow.Author.Needs.{needs}
 use native.Mathlib.Omega.{arith}
 use native.Mathlib.Nat.{add-zero}
 use Rattle.numeral.specs.Shortest.{belowNought}
-use Rattle.numeral.proofs.lay_sign.Statement.{statement}
-use Rattle.numeral.proofs.lay_sign.Tie as tie
+use Rattle.numeral.proofs.laid.lay_sign.Statement.{statement}
+use Rattle.numeral.proofs.laid.lay_sign.Tie as tie
 
 below : (c : tie.Then1) → belowNought (c .before .before .before .args .negative) (c .before .before .before .args .m) ≡ true
 below c = sym (c .before .below-nought .ensures) ∙ c .if1 .taken

@@ -1,4 +1,4 @@
--- `numeral::lay_fraction` meets its contract. The loop's invariant: what is left, written on, comes to what the whole comes to.
+-- `numeral::laid::lay_fraction` meets its contract. The loop's invariant: what is left, written on, comes to what the whole comes to.
 -- The measure is the places that are left.
 use Prim.Native.Nat.{suc, _≤_, _<_, _+_, _-_, _/_, _%_, _^_}
 use mathlib.Core.Path.{_≡_, refl, ap}
@@ -11,8 +11,8 @@ use lib.Seq.{sets}
 use Rattle.numeral.specs.Shortest.{fraction}
 use Rattle.numeral.proofs.Digits.{power-pos}
 use Rattle.numeral.proofs.Parts.{fraction-none, turn}
-use Rattle.numeral.proofs.lay_fraction.Statement.{statement}
-use Rattle.numeral.proofs.lay_fraction.Tie as tie
+use Rattle.numeral.proofs.laid.lay_fraction.Statement.{statement}
+use Rattle.numeral.proofs.laid.lay_fraction.Tie as tie
 
 abbrev Inv-loop : tie.InvT-loop
 Inv-loop f out₀ at k₀ rest₀ p₀ out k rest p =
