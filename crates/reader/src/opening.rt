@@ -47,7 +47,7 @@ impl State {
         self.moved(block, next)
     }
 
-    fn after_version(self, r: Record, next: Token) -> Self
+    pub fn after_version(self, r: Record, next: Token) -> Self
         ensures { λ q. ⌜ (q .held ≡ next) × ((s : List ℕ) → r .kind ≡ Kinds.VERSION → self .block ≡ B.Library → stateOf s q ≡ afterIn s self r) ⌝ }
     {
         let mut q = self.stayed(next);
@@ -55,7 +55,7 @@ impl State {
         q
     }
 
-    fn after_units(self, r: Record, next: Token) -> Self
+    pub fn after_units(self, r: Record, next: Token) -> Self
         ensures { λ q. ⌜ (q .held ≡ next) × ((s : List ℕ) → r .kind ≡ Kinds.UNITS → self .block ≡ B.Library → stateOf s q ≡ afterIn s self r) ⌝ }
     {
         let mut q = self.moved(Block::Units, next);
@@ -63,7 +63,7 @@ impl State {
         q
     }
 
-    fn after_site(self, r: Record, next: Token) -> Self
+    pub fn after_site(self, r: Record, next: Token) -> Self
         ensures { λ q. ⌜ (q .held ≡ next) × ((s : List ℕ) → r .kind ≡ Kinds.SITE → self .block ≡ B.Library → stateOf s q ≡ afterIn s self r) ⌝ }
     {
         let mut q = self.moved(Block::Site, next);
@@ -75,7 +75,7 @@ impl State {
         q
     }
 
-    fn after_macro(self, r: Record, next: Token) -> Self
+    pub fn after_macro(self, r: Record, next: Token) -> Self
         ensures { λ q. ⌜ (q .held ≡ next) × ((s : List ℕ) → r .kind ≡ Kinds.MACRO → self .block ≡ B.Library → stateOf s q ≡ afterIn s self r) ⌝ }
     {
         let mut q = self.moved(Block::Macro, next);
@@ -85,7 +85,7 @@ impl State {
         q
     }
 
-    fn after_site_class(self, r: Record, next: Token) -> Self
+    pub fn after_site_class(self, r: Record, next: Token) -> Self
         ensures { λ q. ⌜ (q .held ≡ next) × ((s : List ℕ) → r .kind ≡ Kinds.SITE-CLASS → self .block ≡ B.Site → stateOf s q ≡ afterIn s self r) ⌝ }
     {
         let mut q = self.stayed(next);
@@ -94,7 +94,7 @@ impl State {
     }
 
     // A macro lacks no size, so that for it nothing changes.
-    fn after_size(self, r: Record, next: Token) -> Self
+    pub fn after_size(self, r: Record, next: Token) -> Self
         ensures { λ q. ⌜ (q .held ≡ next) × ((s : List ℕ) → r .kind ≡ Kinds.SIZE → oneOf (self .block) (B.Site ∷ B.Macro ∷ []) ≡ true → stateOf s q ≡ afterIn s self r) ⌝ }
     {
         let mut q = self.stayed(next);
@@ -103,7 +103,7 @@ impl State {
     }
 
     // The words end where the site or the macro goes on.
-    fn after_symmetry(self, r: Record, next: Token) -> Self
+    pub fn after_symmetry(self, r: Record, next: Token) -> Self
         ensures { λ q. ⌜ (q .held ≡ next) × ((s : List ℕ) → r .kind ≡ Kinds.SYMMETRY → oneOf (self .block) (B.Site ∷ B.Macro ∷ []) ≡ true → stateOf s q ≡ afterIn s self r) ⌝ }
     {
         let mut q = self.moved(Block::Symmetry, next);
@@ -112,7 +112,7 @@ impl State {
         q
     }
 
-    fn after_pin(self, r: Record, next: Token) -> Self
+    pub fn after_pin(self, r: Record, next: Token) -> Self
         ensures { λ q. ⌜ (q .held ≡ next) × ((s : List ℕ) → r .kind ≡ Kinds.PIN → self .block ≡ B.Macro → stateOf s q ≡ afterIn s self r) ⌝ }
     {
         let mut q = self.moved(Block::Pin, next);
@@ -122,7 +122,7 @@ impl State {
         q
     }
 
-    fn after_port(self, r: Record, next: Token) -> Self
+    pub fn after_port(self, r: Record, next: Token) -> Self
         ensures { λ q. ⌜ (q .held ≡ next) × ((s : List ℕ) → r .kind ≡ Kinds.PORT → self .block ≡ B.Pin → stateOf s q ≡ afterIn s self r) ⌝ }
     {
         let mut q = self.moved(Block::Port, next);
@@ -130,7 +130,7 @@ impl State {
         q
     }
 
-    fn after_obs(self, r: Record, next: Token) -> Self
+    pub fn after_obs(self, r: Record, next: Token) -> Self
         ensures { λ q. ⌜ (q .held ≡ next) × ((s : List ℕ) → r .kind ≡ Kinds.OBS → self .block ≡ B.Macro → stateOf s q ≡ afterIn s self r) ⌝ }
     {
         let mut q = self.moved(Block::Obs, next);
@@ -139,7 +139,7 @@ impl State {
     }
 
     // The layer ends where the port or the obstructions go on.
-    fn after_layer(self, r: Record, next: Token) -> Self
+    pub fn after_layer(self, r: Record, next: Token) -> Self
         ensures { λ q. ⌜ (q .held ≡ next) × ((s : List ℕ) → r .kind ≡ Kinds.LAYER → oneOf (self .block) (B.Port ∷ B.Obs ∷ []) ≡ true → stateOf s q ≡ afterIn s self r) ⌝ }
     {
         let mut q = self.moved(Block::Options, next);
@@ -148,7 +148,7 @@ impl State {
         q
     }
 
-    fn after_rect(self, r: Record, next: Token) -> Self
+    pub fn after_rect(self, r: Record, next: Token) -> Self
         ensures { λ q. ⌜ (q .held ≡ next) × ((s : List ℕ) → r .kind ≡ Kinds.RECT → self .block ≡ B.Layer → stateOf s q ≡ afterIn s self r) ⌝ }
     {
         let mut q = self.moved(Block::Rect, next);
@@ -157,7 +157,7 @@ impl State {
         q
     }
 
-    fn after_polygon(self, r: Record, next: Token) -> Self
+    pub fn after_polygon(self, r: Record, next: Token) -> Self
         ensures { λ q. ⌜ (q .held ≡ next) × ((s : List ℕ) → r .kind ≡ Kinds.POLYGON → self .block ≡ B.Layer → stateOf s q ≡ afterIn s self r) ⌝ }
     {
         let mut q = self.moved(Block::Polygon, next);
@@ -166,7 +166,7 @@ impl State {
         q
     }
 
-    fn after_path(self, r: Record, next: Token) -> Self
+    pub fn after_path(self, r: Record, next: Token) -> Self
         ensures { λ q. ⌜ (q .held ≡ next) × ((s : List ℕ) → r .kind ≡ Kinds.PATH → self .block ≡ B.Layer → stateOf s q ≡ afterIn s self r) ⌝ }
     {
         let mut q = self.moved(Block::Path, next);
@@ -176,7 +176,7 @@ impl State {
     }
 
     // More points than are asked for may follow.
-    fn after_point(self, r: Record, next: Token) -> Self
+    pub fn after_point(self, r: Record, next: Token) -> Self
         ensures { λ q. ⌜ (q .held ≡ next) × ((s : List ℕ) → r .kind ≡ Kinds.POINT → oneOf (self .block) (B.Rect ∷ B.Polygon ∷ B.Path ∷ []) ≡ true → stateOf s q ≡ afterIn s self r) ⌝ }
     {
         let wants = self.wants;

@@ -1,11 +1,13 @@
-// The innermost block: whether it has a record, and how it ends.
+// The innermost block: whether it has a record, what is open after one, and how it ends.
 ghost use mathlib.Core.Path.{_≡_};
+ghost use mathlib.Core.Bool.{true};
 ghost use mathlib.Core.List.{List, [], _∷_};
 ghost use Prim.Native.Nat.{ℕ, _≤_};
 ghost use lib.ListN.{take, drop};
 ghost use Rattle.lexer.specs.Kinds as Kind;
 ghost use Rattle.grammar.specs.Engine.{some};
-ghost use Rattle.reader.specs.Open.{frameOf};
+ghost use Rattle.reader.specs.Open.{frameOf, stateOf, fits};
+ghost use Rattle.reader.specs.Stepped.{afterIn};
 ghost use Rattle.render.specs.Pieces.{said, text as bytesOf};
 ghost use Rattle.render.specs.Plain.{ownerOf, bare};
 ghost use Rattle.render.specs.Says.{word};
@@ -21,6 +23,7 @@ use crate::shape::word_line;
 use reader::state::Block;
 use reader::state::State;
 use record::Record;
+use record::kind;
 use word::names;
 
 pub(crate) fn owns(st: State, r: Record) -> bool
@@ -53,6 +56,33 @@ fn starts(place: usize, owner: usize) -> bool
         return false;
     }
     place == owner
+}
+
+// The state after a record that the innermost block may have. The reader makes the same choice in its loop, with the same functions: the compiler
+// puts it into both loops only where each has its own.
+pub(crate) fn opened(st: State, r: Record) -> State
+    ensures { λ q. ⌜ (q .held ≡ st .held) × ((s : List ℕ) → fits (st .block) (r .kind) ≡ true → stateOf s q ≡ afterIn s st r) ⌝ }
+{
+    let held = st.held;
+    let k = r.kind();
+    match k {
+        kind::VERSION => st.after_version(r, held),
+        kind::UNITS => st.after_units(r, held),
+        kind::SITE => st.after_site(r, held),
+        kind::MACRO => st.after_macro(r, held),
+        kind::SITE_CLASS => st.after_site_class(r, held),
+        kind::SIZE => st.after_size(r, held),
+        kind::SYMMETRY => st.after_symmetry(r, held),
+        kind::PIN => st.after_pin(r, held),
+        kind::PORT => st.after_port(r, held),
+        kind::OBS => st.after_obs(r, held),
+        kind::LAYER => st.after_layer(r, held),
+        kind::RECT => st.after_rect(r, held),
+        kind::POLYGON => st.after_polygon(r, held),
+        kind::PATH => st.after_path(r, held),
+        kind::POINT => st.after_point(r, held),
+        _ => st,
+    }
 }
 
 // END under what opened the block, or the `;` of its line; a layer ends with nothing.

@@ -16,6 +16,7 @@ ghost use Rattle.render.specs.Lines.{endAll, lines};
 ghost use Rattle.render.specs.Fit.{admits};
 ghost use Rattle.writer.specs.Put.{Put};
 ghost use Rattle.writer.specs.Penned.{admitsAll, Wrote, Reached, Takes, Settled, Ready};
+use crate::block::opened;
 use crate::block::owns;
 use crate::block::write_closing;
 use crate::line::end_statement;
@@ -103,9 +104,8 @@ fn write_record(text: &[u8], st: State, r: Record, out: &mut [u8], at: usize) ->
     let settled = settle(owner, r, out, reached.at);
     let home = settled.st;
     let to = write_statement(text, home, r, out, settled.at);
-    let held = home.held;
     Pen {
-        st: home.after(r, held),
+        st: opened(home, r),
         at: to,
     }
 }

@@ -7,19 +7,19 @@ use Rattle.writer.proofs.pen.write_record.Tie as tie
 
 returns : tie.Need-returns
 returns c =
-    let a = c .before .before .before .before .before .before .before .before .before .before .before .before .before .before .before .before .before .before .args in
+    let a = c .before .before .before .before .before .before .before .before .before .before .before .before .before .before .before .before .before .args in
     let s = a .text .now in
-    let e = c .before .before .before .before .before .before .before .before .before .before .before .before .before .before .reach-owner .ensures in
-    let d = c .before .before .before .before .before .before .before .before .before .settle .ensures s (reached-takes s (a .st) (a .r) _ _ _ _ e) in
-    record-written s (a .st) (a .r) _ _ _ _ e _ _ d _ _ (c .before .before .before .before .write-statement .ensures) _ _ (c .after .ensures)
+    let e = c .before .before .before .before .before .before .before .before .before .before .before .before .before .reach-owner .ensures in
+    let d = c .before .before .before .before .before .before .before .before .settle .ensures s (reached-takes s (a .st) (a .r) _ _ _ _ e) in
+    record-written s (a .st) (a .r) _ _ _ _ e _ _ d _ _ (c .before .before .before .write-statement .ensures) _ _ (c .opened .ensures)
 
 same-length : tie.Need-same-length
 same-length c =
-    let a = c .before .before .before .before .before .before .before .before .before .before .before .before .before .before .before .before .before .before .args in
+    let a = c .before .before .before .before .before .before .before .before .before .before .before .before .before .before .before .before .before .args in
     let s = a .text .now in
-    let e = c .before .before .before .before .before .before .before .before .before .before .before .before .before .before .reach-owner .ensures in
-    let d = c .before .before .before .before .before .before .before .before .before .settle .ensures s (reached-takes s (a .st) (a .r) _ _ _ _ e) in
-    c .before .before .before .before .write-statement .ensures .room ∙ d .put .room ∙ e .ended .put .room
+    let e = c .before .before .before .before .before .before .before .before .before .before .before .before .before .reach-owner .ensures in
+    let d = c .before .before .before .before .before .before .before .before .settle .ensures s (reached-takes s (a .st) (a .r) _ _ _ _ e) in
+    c .before .before .before .write-statement .ensures .room ∙ d .put .room ∙ e .ended .put .room
 
 pub write-record-spec : {M : Type 1} → statement M
 write-record-spec =
