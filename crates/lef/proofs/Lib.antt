@@ -1,3 +1,4 @@
 mod Wide
 pub mod Apart
 pub mod Named
+mod Tokens

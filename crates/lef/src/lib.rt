@@ -6,9 +6,11 @@ use crate::told::byte_or;
 use crate::told::leave;
 use crate::told::span_of;
 use crate::told::tell;
-use lexer::Answer;
+use lexer::Screened;
 use lookup::Chain;
 use lookup::InForce;
+use parser::take;
+use parser::take::Taken;
 use record::kind;
 use refusal::Refusal;
 
@@ -73,16 +75,17 @@ pub extern "C" fn lef_token(
     ensures { λ _. ⌜ now (place .exit) ≡ tokenNumbers (now (text .entry)) from .place ⌝ }
     ensures { λ _. ⌜ now (line .exit) ≡ tokenNumbers (now (text .entry)) from .line ⌝ }
 {
-    match lexer::first_token(text, from as usize) {
-        Answer::Found(t) => {
+    let screened = lexer::screen(text);
+    if let Screened::Refused(refusal) = screened {
+        leave(0, 0, 0, kind, start, stop);
+        return tell(refusal, place, line);
+    }
+    match take::token_from(text, from as usize, 1) {
+        Taken::Next(t) => {
             leave(t.kind, t.start, t.stop, kind, start, stop);
             tell(Refusal::done(0), place, line)
         }
-        Answer::End => {
-            leave(0, text.len(), text.len(), kind, start, stop);
-            tell(Refusal::done(0), place, line)
-        }
-        Answer::Refused(refusal) => {
+        Taken::Refused(refusal) => {
             leave(0, 0, 0, kind, start, stop);
             tell(refusal, place, line)
         }
