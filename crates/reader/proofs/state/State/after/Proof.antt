@@ -1,16 +1,14 @@
 -- `reader::state::State::after` meets its contract: by the kind, each arm is the record's effect in the blocks that may have it.
 use mathlib.Core.Path.{sym, _∙_}
-use borrow.Author.Tests.{ne-eqb}
 use Rattle.reader.specs.declared.state.Block.the-variants as B
-use Rattle.parser.specs.Stepped.{moveOf}
 use Rattle.reader.specs.Open.{homes, fitsIn}
 use Rattle.reader.proofs.Among.{the-one}
-use Rattle.reader.proofs.After.{after-other}
+use Rattle.reader.proofs.Chosen.{by-kind, by-none}
 use Rattle.reader.proofs.state.State.after.Statement.{statement}
 use Rattle.reader.proofs.state.State.after.Tie as tie
 
 pub after-spec : {M : Type 1} → statement M
-unfolding homes fitsIn moveOf
+unfolding homes fitsIn
 after-spec =
     tie.close
     (tie.spec
@@ -31,39 +29,19 @@ after-spec =
     (λ c κs. tt)
     (λ c κs. tt)
     (λ c κs. tt)
-    (λ c. let e = c .after-version .ensures in let k = sym (c .before .before .kind .ensures) ∙ c .before .match .keys1 in
-    (e .0, λ s f. e .1 s k (the-one _ B.Library (rw k at f))))
-    (λ c. let e = c .after-units .ensures in let k = sym (c .before .before .kind .ensures) ∙ c .before .match .keys2 in
-    (e .0, λ s f. e .1 s k (the-one _ B.Library (rw k at f))))
-    (λ c. let e = c .after-site .ensures in let k = sym (c .before .before .kind .ensures) ∙ c .before .match .keys3 in
-    (e .0, λ s f. e .1 s k (the-one _ B.Library (rw k at f))))
-    (λ c. let e = c .after-macro .ensures in let k = sym (c .before .before .kind .ensures) ∙ c .before .match .keys4 in
-    (e .0, λ s f. e .1 s k (the-one _ B.Library (rw k at f))))
-    (λ c. let e = c .after-site-class .ensures in let k = sym (c .before .before .kind .ensures) ∙ c .before .match .keys5 in
-    (e .0, λ s f. e .1 s k (the-one _ B.Site (rw k at f))))
-    (λ c. let e = c .after-size .ensures in let k = sym (c .before .before .kind .ensures) ∙ c .before .match .keys6 in
-    (e .0, λ s f. e .1 s k (rw k at f)))
-    (λ c. let e = c .after-symmetry .ensures in let k = sym (c .before .before .kind .ensures) ∙ c .before .match .keys7 in
-    (e .0, λ s f. e .1 s k (rw k at f)))
-    (λ c. let e = c .after-pin .ensures in let k = sym (c .before .before .kind .ensures) ∙ c .before .match .keys8 in
-    (e .0, λ s f. e .1 s k (the-one _ B.Macro (rw k at f))))
-    (λ c. let e = c .after-port .ensures in let k = sym (c .before .before .kind .ensures) ∙ c .before .match .keys9 in
-    (e .0, λ s f. e .1 s k (the-one _ B.Pin (rw k at f))))
-    (λ c. let e = c .after-obs .ensures in let k = sym (c .before .before .kind .ensures) ∙ c .before .match .keys10 in
-    (e .0, λ s f. e .1 s k (the-one _ B.Macro (rw k at f))))
-    (λ c. let e = c .after-layer .ensures in let k = sym (c .before .before .kind .ensures) ∙ c .before .match .keys11 in
-    (e .0, λ s f. e .1 s k (rw k at f)))
-    (λ c. let e = c .after-rect .ensures in let k = sym (c .before .before .kind .ensures) ∙ c .before .match .keys12 in
-    (e .0, λ s f. e .1 s k (the-one _ B.Layer (rw k at f))))
-    (λ c. let e = c .after-polygon .ensures in let k = sym (c .before .before .kind .ensures) ∙ c .before .match .keys13 in
-    (e .0, λ s f. e .1 s k (the-one _ B.Layer (rw k at f))))
-    (λ c. let e = c .after-path .ensures in let k = sym (c .before .before .kind .ensures) ∙ c .before .match .keys14 in
-    (e .0, λ s f. e .1 s k (the-one _ B.Layer (rw k at f))))
-    (λ c. let e = c .after-point .ensures in let k = sym (c .before .before .kind .ensures) ∙ c .before .match .keys15 in
-    (e .0, λ s f. e .1 s k (rw k at f)))
-    (λ c. let m = c .stayed .ensures in let n = c .before .match .rest in let k = c .before .before .kind .ensures in let a = c .before .before .before .args in (
-      rw m,
-      λ s f. rw m (after-other s (a .self) (a .next) (a .r)
-          (rw (← k) (simp (ne-eqb _ 1 (n .0 .0 .0 .0 .0 .0 .0 .0 .0 .0 .0 .0 .0 .0 .1), ne-eqb _ 6 (n .0 .0 .0 .0 .0 .0 .0 .0 .0 .0 .0 .0 .0 .1), ne-eqb _ 8 (n .0 .0 .0 .0 .0 .0 .0 .0 .0 .0 .0 .0 .1), ne-eqb _ 10 (n .0 .0 .0 .0 .0 .0 .0 .0 .1), ne-eqb _ 13 (n .0 .0 .0 .0 .0 .0 .0 .0 .0 .0 .0 .1), ne-eqb _ 18 (n .0 .0 .0 .0 .0 .0 .0 .1), ne-eqb _ 24 (n .0 .0 .0 .0 .0 .0 .1), ne-eqb _ 26 (n .0 .0 .0 .0 .0 .1), ne-eqb _ 27 (n .0 .0 .0 .0 .1), ne-eqb _ 30 (n .0 .0 .0 .1), ne-eqb _ 31 (n .0 .0 .1), ne-eqb _ 32 (n .0 .1))))
-          (rw (← k) (ne-eqb _ 9 (n .0 .0 .0 .0 .0 .0 .0 .0 .0 .0 .1))) (rw (← k) (ne-eqb _ 12 (n .0 .0 .0 .0 .0 .0 .0 .0 .0 .1))) (rw (← k) (ne-eqb _ 33 (n .1)))),
-    )))
+    (λ c. let a = c .before .before .before .args in by-kind (a .self) (a .next) (a .r) 1 _ (c .after-version .result) (c .after-version .ensures) (sym (c .before .before .kind .ensures) ∙ c .before .match .keys1) (the-one _ B.Library))
+    (λ c. let a = c .before .before .before .args in by-kind (a .self) (a .next) (a .r) 6 _ (c .after-units .result) (c .after-units .ensures) (sym (c .before .before .kind .ensures) ∙ c .before .match .keys2) (the-one _ B.Library))
+    (λ c. let a = c .before .before .before .args in by-kind (a .self) (a .next) (a .r) 8 _ (c .after-site .result) (c .after-site .ensures) (sym (c .before .before .kind .ensures) ∙ c .before .match .keys3) (the-one _ B.Library))
+    (λ c. let a = c .before .before .before .args in by-kind (a .self) (a .next) (a .r) 13 _ (c .after-macro .result) (c .after-macro .ensures) (sym (c .before .before .kind .ensures) ∙ c .before .match .keys4) (the-one _ B.Library))
+    (λ c. let a = c .before .before .before .args in by-kind (a .self) (a .next) (a .r) 9 _ (c .after-site-class .result) (c .after-site-class .ensures) (sym (c .before .before .kind .ensures) ∙ c .before .match .keys5) (the-one _ B.Site))
+    (λ c. let a = c .before .before .before .args in by-kind (a .self) (a .next) (a .r) 12 _ (c .after-size .result) (c .after-size .ensures) (sym (c .before .before .kind .ensures) ∙ c .before .match .keys6) (λ f. f))
+    (λ c. let a = c .before .before .before .args in by-kind (a .self) (a .next) (a .r) 10 _ (c .after-symmetry .result) (c .after-symmetry .ensures) (sym (c .before .before .kind .ensures) ∙ c .before .match .keys7) (λ f. f))
+    (λ c. let a = c .before .before .before .args in by-kind (a .self) (a .next) (a .r) 18 _ (c .after-pin .result) (c .after-pin .ensures) (sym (c .before .before .kind .ensures) ∙ c .before .match .keys8) (the-one _ B.Macro))
+    (λ c. let a = c .before .before .before .args in by-kind (a .self) (a .next) (a .r) 24 _ (c .after-port .result) (c .after-port .ensures) (sym (c .before .before .kind .ensures) ∙ c .before .match .keys9) (the-one _ B.Pin))
+    (λ c. let a = c .before .before .before .args in by-kind (a .self) (a .next) (a .r) 26 _ (c .after-obs .result) (c .after-obs .ensures) (sym (c .before .before .kind .ensures) ∙ c .before .match .keys10) (the-one _ B.Macro))
+    (λ c. let a = c .before .before .before .args in by-kind (a .self) (a .next) (a .r) 27 _ (c .after-layer .result) (c .after-layer .ensures) (sym (c .before .before .kind .ensures) ∙ c .before .match .keys11) (λ f. f))
+    (λ c. let a = c .before .before .before .args in by-kind (a .self) (a .next) (a .r) 30 _ (c .after-rect .result) (c .after-rect .ensures) (sym (c .before .before .kind .ensures) ∙ c .before .match .keys12) (the-one _ B.Layer))
+    (λ c. let a = c .before .before .before .args in by-kind (a .self) (a .next) (a .r) 31 _ (c .after-polygon .result) (c .after-polygon .ensures) (sym (c .before .before .kind .ensures) ∙ c .before .match .keys13) (the-one _ B.Layer))
+    (λ c. let a = c .before .before .before .args in by-kind (a .self) (a .next) (a .r) 32 _ (c .after-path .result) (c .after-path .ensures) (sym (c .before .before .kind .ensures) ∙ c .before .match .keys14) (the-one _ B.Layer))
+    (λ c. let a = c .before .before .before .args in by-kind (a .self) (a .next) (a .r) 33 _ (c .after-point .result) (c .after-point .ensures) (sym (c .before .before .kind .ensures) ∙ c .before .match .keys15) (λ f. f))
+    (λ c. let a = c .before .before .before .args in rw (c .stayed .ensures) (by-none (a .self) (a .next) (a .r) _ (c .before .before .kind .ensures) (c .before .match .rest))))
