@@ -18,6 +18,34 @@ notAscii = 2
 abbrev pub noToken : ℕ
 noToken = 3
 
+-- the token is of the wrong kind, or is the end; from here to 10 the place is the end of the token held ahead, or the text's length
+abbrev pub wrongKind : ℕ
+wrongKind = 4
+
+-- a word is no key word here
+abbrev pub notKey : ℕ
+notKey = 5
+
+-- a value is not allowed
+abbrev pub notAllowed : ℕ
+notAllowed = 6
+
+-- another word is required
+abbrev pub anotherWord : ℕ
+anotherWord = 7
+
+-- known, and not supported
+abbrev pub notSupported : ℕ
+notSupported = 8
+
+-- a numeral is none, or cannot be held
+abbrev pub notNumeral : ℕ
+notNumeral = 9
+
+-- a SITE lacks CLASS or SIZE
+abbrev pub siteLacks : ℕ
+siteLacks = 10
+
 -- the record buffer is too small; place: the records needed
 abbrev pub recordRoom : ℕ
 recordRoom = 11

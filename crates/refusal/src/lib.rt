@@ -1,7 +1,7 @@
 // What every call says when it cannot use what it was given: a number, a place and a line, as the table
 // "Numbers that come back" of the rules has them.
 ghost use mathlib.Core.Path.{_≡_};
-ghost use Rattle.refusal.specs.Table.{refused, done, tooLong, notAscii, noToken, recordRoom, textRoom, notWhole, wrongRecord, lacking};
+ghost use Rattle.refusal.specs.Table.{refused, done, tooLong, notAscii, noToken, wrongKind, notKey, notAllowed, anotherWord, notSupported, notNumeral, siteLacks, recordRoom, textRoom, notWhole, wrongRecord, lacking};
 
 // The number has a whole word, so that a token and a refusal lie alike in an answer that is the one or the other.
 pub struct Refusal {
@@ -18,6 +18,20 @@ impl Refusal {
     pub const NOT_ASCII: usize = 2;
 
     pub const NO_TOKEN: usize = 3;
+
+    pub const WRONG_KIND: usize = 4;
+
+    pub const NOT_KEY: usize = 5;
+
+    pub const NOT_ALLOWED: usize = 6;
+
+    pub const ANOTHER_WORD: usize = 7;
+
+    pub const NOT_SUPPORTED: usize = 8;
+
+    pub const NOT_NUMERAL: usize = 9;
+
+    pub const SITE_LACKS: usize = 10;
 
     pub const RECORD_ROOM: usize = 11;
 
@@ -66,8 +80,65 @@ impl Refusal {
     pub fn no_token(place: usize, line: usize) -> Self
         ensures { λ r. ⌜ r ≡ refused noToken place line ⌝ }
     {
+        Self::on_line(Self::NO_TOKEN, place, line)
+    }
+
+    // The token before the one held is of the wrong kind, or the end cannot be taken. From here to 10 the place is the end of the token
+    // held ahead, or the text's length, and the line is that of the place.
+    pub fn wrong_kind(place: usize, line: usize) -> Self
+        ensures { λ r. ⌜ r ≡ refused wrongKind place line ⌝ }
+    {
+        Self::on_line(Self::WRONG_KIND, place, line)
+    }
+
+    // A word is no key word here.
+    pub fn not_key(place: usize, line: usize) -> Self
+        ensures { λ r. ⌜ r ≡ refused notKey place line ⌝ }
+    {
+        Self::on_line(Self::NOT_KEY, place, line)
+    }
+
+    // A value is not allowed.
+    pub fn not_allowed(place: usize, line: usize) -> Self
+        ensures { λ r. ⌜ r ≡ refused notAllowed place line ⌝ }
+    {
+        Self::on_line(Self::NOT_ALLOWED, place, line)
+    }
+
+    // Another word is required.
+    pub fn another_word(place: usize, line: usize) -> Self
+        ensures { λ r. ⌜ r ≡ refused anotherWord place line ⌝ }
+    {
+        Self::on_line(Self::ANOTHER_WORD, place, line)
+    }
+
+    // Known, and not supported.
+    pub fn not_supported(place: usize, line: usize) -> Self
+        ensures { λ r. ⌜ r ≡ refused notSupported place line ⌝ }
+    {
+        Self::on_line(Self::NOT_SUPPORTED, place, line)
+    }
+
+    // A numeral is none, or cannot be held.
+    pub fn not_numeral(place: usize, line: usize) -> Self
+        ensures { λ r. ⌜ r ≡ refused notNumeral place line ⌝ }
+    {
+        Self::on_line(Self::NOT_NUMERAL, place, line)
+    }
+
+    // A SITE lacks CLASS or SIZE.
+    pub fn site_lacks(place: usize, line: usize) -> Self
+        ensures { λ r. ⌜ r ≡ refused siteLacks place line ⌝ }
+    {
+        Self::on_line(Self::SITE_LACKS, place, line)
+    }
+
+    // What is refused at a place of the text, on its line.
+    fn on_line(number: usize, place: usize, line: usize) -> Self
+        ensures { λ r. ⌜ r ≡ refused number place line ⌝ }
+    {
         Self {
-            number: Self::NO_TOKEN,
+            number,
             place,
             line,
         }
