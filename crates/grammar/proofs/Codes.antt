@@ -12,9 +12,11 @@ use Rattle.word.specs.Words.{wordOf, word}
 use Rattle.word.specs.Codes.{codeOf, valuesOf, placeOf}
 use Rattle.word.proofs.Words.{both}
 use Rattle.grammar.specs.Tokens.{Ahead, ok, then, complain, matches}
-use Rattle.grammar.specs.Engine.{get-name, get-key, expect-key, parse-enum, begins, goesOn, secondKey, parse-second}
+use Rattle.grammar.specs.Engine.{get-name, get-key, expect-key, parse-enum, begins, parse-second}
+use Rattle.grammar.specs.Second.{goesOn, secondKey}
 use Rattle.grammar.specs.Listed.{Codes, kindCodes, allows, listed}
 use Rattle.grammar.proofs.Answers.{Holds, holds-then, holds-after, holds-cond}
+use Rattle.grammar.proofs.Second.{second-is-listed}
 
 -- how many values a list has, two numbers for each
 unfoldable pub pairs : List ℕ → ℕ
@@ -95,13 +97,12 @@ module _ {A M : Type 0} (k : ℕ) where
   expect-key-is w a = holds-after (λ v. v ≡ w) (get-key a) _ (λ v b. holds-cond (λ v. v ≡ w) (eqb v w) (ok v b) (complain 7 b) (λ e. eqb-true v w e) (λ e. tt))
 
   pub second-coded : (w : ℕ) → begins (valuesOf k) w ≡ true → keyed-seconds k ≡ true → (a : Ahead A M) → Holds (Coded k) (parse-second k w a)
-  unfolding parse-second
-  second-coded w b s a =
-      holds-cond (Coded k) (not g || (matches Kind.semicolon a && not (eqb c 0))) (ok c a) _ (λ e. (alone g (matches Kind.semicolon a) (eqb c 0) refl refl e, code-most k w 0))
+  second-coded w b s a = rw (second-is-listed k w a)
+      (holds-cond (Coded k) (not g || (matches Kind.semicolon a && not (eqb c 0))) (ok c a) _ (λ e. (alone g (matches Kind.semicolon a) (eqb c 0) refl refl e, code-most k w 0))
       (λ e. holds-cond (Coded k) (eqb (secondKey w) 0) (parse-enum follow a) (then (expect-key (secondKey w) a) (λ v d. ok (codeOf k w v) d))
       (λ z. enum-coded follow follow-most a)
       (λ z. holds-then (Coded k) (λ v. v ≡ secondKey w) (expect-key (secondKey w) a) (λ v d. ok (codeOf k w v) d) (expect-key-is (secondKey w) a)
-      (λ v d q. (rw q (second-key-code k w s (or-false g _ e) z), code-most k w v))))
+      (λ v d q. (rw q (second-key-code k w s (or-false g _ e) z), code-most k w v)))))
     where
       g : Bool
       g = goesOn (valuesOf k) w

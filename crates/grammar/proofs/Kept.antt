@@ -17,7 +17,9 @@ use Rattle.word.specs.Codes.{codeOf, valuesOf}
 use Rattle.word.proofs.Words.{both}
 use Rattle.grammar.specs.Tokens.{Tok, Ahead, Answer, ok, then, complain, next, take, matches, expect, bad}
 use Rattle.grammar.specs.Grammar.{Item, key, keyword, name, own, x, y, semi, value, first, firstKey, second, string, code, ifMore, noName, among, whole}
-use Rattle.grammar.specs.Engine.{Maybe, none, some, Name, Draft, Frame, setCode, setName, setX, setY, get-name, get-key, expect-key, expect-keyword, expect-ident, valued, parse-number, parse-enum, begins, goesOn, secondKey, parse-second, empty, member, nameOf, insideOf, item, passed, items}
+use Rattle.grammar.specs.Engine.{Maybe, none, some, Name, Draft, Frame, setCode, setName, setX, setY, get-name, get-key, expect-key, expect-keyword, expect-ident, valued, parse-number, parse-enum, begins, parse-second, empty, member, nameOf, insideOf, item, passed, items}
+use Rattle.grammar.specs.Second.{goesOn, secondKey}
+use Rattle.grammar.proofs.Second.{second-is-listed}
 use Rattle.grammar.proofs.Answers.{ranged, Ok, ok-then, ok-map, ok-cond, ok-when}
 use Rattle.grammar.proofs.Takes.{takes, numbered, all-numbered, eager}
 
@@ -108,12 +110,11 @@ module _ {A M : Type 0} where
 
   -- the second word need not be there
   second-past : (k w : ℕ) (a : Ahead A M) → Ok (Ends a) (parse-second k w a)
-  unfolding parse-second
-  second-past k w a =
-      ok-cond (Ends a) (not (goesOn (valuesOf k) w) || (matches Kind.semicolon a && not (eqb (codeOf k w 0) 0))) _ _ here
+  second-past k w a = rw (second-is-listed k w a)
+      (ok-cond (Ends a) (not (goesOn (valuesOf k) w) || (matches Kind.semicolon a && not (eqb (codeOf k w 0) 0))) _ _ here
       (ok-cond (Ends a) (eqb (secondKey w) 0) _ _
       (ok-map (Past a) (Ends a) (parse-enum _ a) (λ v b h. there h) (enum-past _ a))
-      (ok-then (Past a) (Ends a) (expect-key (secondKey w) a) _ (this-key-past (secondKey w) a) (λ v b h. there h)))
+      (ok-then (Past a) (Ends a) (expect-key (secondKey w) a) _ (this-key-past (secondKey w) a) (λ v b h. there h))))
 
 -- ITEMS
 

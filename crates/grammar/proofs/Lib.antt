@@ -1,6 +1,7 @@
 pub mod Blocks
 pub mod Answers
 pub mod Takes
+pub mod Second
 pub mod Kept
 pub mod Steps
 pub mod Turned

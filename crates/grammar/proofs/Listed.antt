@@ -20,7 +20,8 @@ use Rattle.word.proofs.Words.{both}
 use Rattle.grammar.specs.Tokens.{Ahead, Answer, ok, then, complain, matches, expect}
 use Rattle.grammar.specs.Grammar.{Block, Item, key, keyword, name, own, x, y, semi, value, first, firstKey, second, string, code, ifMore, noName, among, whole}
 use Rattle.grammar.specs.Table.{body}
-use Rattle.grammar.specs.Engine.{Rec, Draft, Frame, blank, setCode, setFirst, get-name, get-key, expect-key, expect-keyword, expect-ident, valued, parse-number, parse-enum, begins, goesOn, parse-second, empty, member, item, passed, items}
+use Rattle.grammar.specs.Engine.{Rec, Draft, Frame, blank, setCode, setFirst, get-name, get-key, expect-key, expect-keyword, expect-ident, valued, parse-number, parse-enum, begins, parse-second, empty, member, item, passed, items}
+use Rattle.grammar.specs.Second.{goesOn}
 use Rattle.grammar.specs.Reading.{Mark, records, reading}
 use Rattle.grammar.specs.Listed.{kindCodes, allows, listed, Stored}
 use Rattle.grammar.specs.Standing.{Every}

@@ -1,6 +1,6 @@
 -- How a grammar reads tokens: a turn takes a statement, or one of its parts, and gives at most one record.
 use Prim.Native.Nat.{ℕ, zero, suc, _+_}
-use mathlib.Core.Bool.{Bool, true, false, cond, not, _&&_, _||_}
+use mathlib.Core.Bool.{Bool, true, false, cond, _||_}
 use mathlib.Core.List.{List, [], _∷_}
 use lib.Dec.{eqb}
 use lib.ListN.{length, take as List·take, drop as List·drop}
@@ -13,6 +13,7 @@ use Rattle.word.specs.Words.{same, wordOf, word, isKey}
 use Rattle.word.specs.Codes.{codeOf, valuesOf}
 use Rattle.grammar.specs.Tokens.{Tok, Ahead, Answer, ok, then, complain, matches, expect}
 use Rattle.grammar.specs.Grammar.{Block, Item, key, keyword, name, own, x, y, semi, value, first, firstKey, second, string, code, ifMore, noName, among, whole}
+use Rattle.grammar.specs.Follows.{Follow, nothing, optional, required, optionalKey, firstsOf, followIn}
 
 pub data Maybe (A : Type 0) : Type 0 where
   none : Maybe A
@@ -79,7 +80,7 @@ get-key a = then (get-name a) (λ t b. cond (isKey (wordOf (t .bytes))) (ok (wor
 unfoldable pub expect-key : {A M : Type 0} → ℕ → Ahead A M → Answer A M ℕ
 expect-key k a = then (get-key a) (λ w b. cond (eqb w k) (ok w b) (complain 7 b))
 
--- this word, which is no key word: another is 7
+-- this word, be it a key word or not: another is 7
 unfoldable pub expect-keyword : {A M : Type 0} → ℕ → Ahead A M → Answer A M ℕ
 expect-keyword k a = then (get-name a) (λ t b. cond (eqb (wordOf (t .bytes)) k) (ok k b) (complain 7 b))
 
@@ -99,34 +100,39 @@ parse-number a = then (expect Kind.number a) (λ t b. valued (numeralOf (t .byte
 abbrev pub coded : {A M : Type 0} → ℕ → Ahead A M → Answer A M ℕ
 coded c a = cond (eqb c 0) (complain 6 a) (ok c a)
 
--- the word of a value of the kind: no name 4, no value 6. It is the second word where a first one was given.
+-- the word of a value, by its code: no name 4, no value 6
 unfoldable pub parse-enum : {A M : Type 0} → (ℕ → ℕ) → Ahead A M → Answer A M ℕ
 parse-enum codeFor a = then (get-name a) (λ t b. coded (codeFor (wordOf (t .bytes))) b)
 
 -- VALUES OF TWO WORDS
 
--- some value begins with the word w; some value of two words does
+-- some value begins with the word w
 unfoldable pub begins : List ℕ → ℕ → Bool
 begins [] w = false
 begins (v ∷ []) w = false
 begins (v ∷ u ∷ l) w = eqb v w || begins l w
 
-unfoldable pub goesOn : List ℕ → ℕ → Bool
-goesOn [] w = false
-goesOn (v ∷ []) w = false
-goesOn (v ∷ u ∷ l) w = (eqb v w && not (eqb u 0)) || goesOn l w
+-- the first word w by itself
+abbrev pub alone : {A M : Type 0} → ℕ → ℕ → Ahead A M → Answer A M ℕ
+alone k w a = ok (codeOf k w 0) a
 
--- the first words whose second word is a key word by itself
-abbrev pub secondKey : ℕ → ℕ
-secondKey w = cond (eqb w (word "COVER")) (word "BUMP") (cond (eqb w (word "OUTPUT")) (word "TRISTATE") 0)
+-- a second word: no name 4, no value with the first word w 6. The number of what is no word is 0.
+abbrev pub second-word : {A M : Type 0} → ℕ → ℕ → Ahead A M → Answer A M ℕ
+second-word k w a = parse-enum (λ v. cond (eqb v 0) 0 (codeOf k w v)) a
 
--- The second word after the first word w. There is none where no value of the kind has two words that begin so, and none
--- where `;` is held and w is a value by itself; else it must follow, as a key word or as a value word.
+-- the second word u, as a key word: no name 4, no key word 5, another 7
+abbrev pub second-key : {A M : Type 0} → ℕ → ℕ → ℕ → Ahead A M → Answer A M ℕ
+second-key k w u a = then (expect-key u a) (λ v b. ok (codeOf k w v) b)
+
+-- what stands after the first word w of a value of the kind k; the answer is the code of the value
+abbrev pub parse-follow : {A M : Type 0} → ℕ → ℕ → Follow → Ahead A M → Answer A M ℕ
+parse-follow k w nothing a = alone k w a
+parse-follow k w optional a = cond (matches Kind.semicolon a) (alone k w a) (second-word k w a)
+parse-follow k w required a = second-word k w a
+parse-follow k w (optionalKey u) a = cond (matches Kind.semicolon a) (alone k w a) (second-key k w (word u) a)
+
 unfoldable pub parse-second : {A M : Type 0} → ℕ → ℕ → Ahead A M → Answer A M ℕ
-parse-second k w a =
-    cond (not (goesOn (valuesOf k) w) || (matches Kind.semicolon a && not (eqb (codeOf k w 0) 0)))
-    (ok (codeOf k w 0) a)
-    (cond (eqb (secondKey w) 0) (parse-enum (λ v. cond (eqb v 0) 0 (codeOf k w v)) a) (then (expect-key (secondKey w) a) (λ v b. ok (codeOf k w v) b)))
+parse-second k w a = parse-follow k w (followIn (firstsOf k) w) a
 
 -- ITEMS
 

@@ -9,7 +9,7 @@ pub data Block : Type 0 where
 -- one item of a statement, and the refusals that it can give
 pub data Item : Type 0 where
   key : String → Item  -- this key word: no name 4, no key word 5, another 7
-  keyword : String → Item  -- this word, which is no key word: no name 4, another 7
+  keyword : String → Item  -- this word, be it a key word or not: no name 4, another 7
   name : Item  -- the record's name: no name 4
   own : Item  -- the block's name again, byte by byte: no name 4, another 7
   x : Item  -- a number: no number 4, no numeral 9
@@ -18,7 +18,7 @@ pub data Item : Type 0 where
   value : Item  -- a value word of the record's kind: no name 4, another 6
   first : Item  -- the first word of a value of one word or two: no name 4, another 6
   firstKey : Item  -- the same, as a key word: no name 4, no key word 5, another 6
-  second : Item  -- the second word, where one may follow the first
+  second : Item  -- what stands after the first word, by the table of `Follows`
   string : ℕ → Item  -- the record's name, so many bytes in quotes: no string 4, more or fewer bytes 6
   code : ℕ → Item  -- nothing is taken; the record has this code
   ifMore : ℕ → Item  -- nothing is taken; where `;` is held, so many of the items that follow are passed over

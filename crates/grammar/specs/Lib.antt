@@ -1,7 +1,9 @@
 pub mod Tokens
 pub mod Grammar
 pub mod Table
+pub mod Follows
 pub mod Engine
+pub mod Second
 pub mod Turns
 pub mod Reading
 pub mod Examples

@@ -2,4 +2,3 @@ pub mod Acts
 pub mod Ahead
 pub mod Items
 pub mod Rows
-pub mod Second

@@ -152,7 +152,7 @@ fn origin(text: &[u8], held: Token, owner: usize) -> Step
     Step::Gives(next, Record::origin(held.start, owner, x, y))
 }
 
-// SOURCE, which no version has that this library reads.
+// SOURCE, which needs a version of at most 5.4, else 5; it is then refused 8 while it is still held.
 fn source(held: Token, version: u64) -> Step
     ensures { λ r. ⌜ ((s : List ℕ) → asStep s r ≡ filedStep (cond (leb version 5400000) (T.halts 8 (record { place = held .stop; line = held .line })) (T.halts 5 (record { place = held .stop; line = held .line })))) ⌝ }
 {

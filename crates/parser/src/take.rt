@@ -141,7 +141,7 @@ pub fn expect_key(text: &[u8], held: Token, key: u8) -> Word
     }
 }
 
-// This word, which is no key word.
+// This word, be it a key word or not.
 pub fn expect_keyword(text: &[u8], held: Token, key: u8) -> Word
     ensures { λ r. ⌜ asWord (now (text .entry)) r ≡ expect-keyword key (aheadOf (now (text .entry)) held) ⌝ }
 {

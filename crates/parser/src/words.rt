@@ -7,7 +7,8 @@ ghost use lib.Dec.{eqb};
 ghost use Rattle.record.specs.Kinds as Kinds;
 ghost use Rattle.word.specs.Codes.{codeOf, valuesOf};
 ghost use Rattle.grammar.specs.Grammar.{first, firstKey, second, semi};
-ghost use Rattle.grammar.specs.Engine.{Frame, Draft, item, begins, goesOn, secondKey, parse-second, parse-enum};
+ghost use Rattle.grammar.specs.Engine.{Frame, Draft, item, begins, parse-second, parse-enum};
+ghost use Rattle.grammar.specs.Second.{goesOn, secondKey};
 ghost use Rattle.parser.specs.Code.{aheadOf, asWord, asFirst, asRec, recordAfter};
 use crate::take;
 use crate::take::Taken;
@@ -140,7 +141,7 @@ fn code_of_two(kind: u8, w: u8, v: u8) -> u8
     codes::code_of(kind, w, v)
 }
 
-// The second word that is a key word by itself, or 0.
+// The second word that is asked for as a key word, or 0.
 fn second_key(w: u8) -> u8
     ensures { λ r. ⌜ r ≡ secondKey w ⌝ }
 {

@@ -11,7 +11,8 @@ use lib.ListN.{getD}
 use Rattle.word.specs.Codes.{valuesOf, placeOf, codeOf}
 use Rattle.word.specs.Spelling.{firstOf, secondOf}
 use Rattle.word.proofs.Words.{both}
-use Rattle.grammar.specs.Engine.{begins, goesOn}
+use Rattle.grammar.specs.Engine.{begins}
+use Rattle.grammar.specs.Second.{goesOn}
 use Rattle.render.specs.Says.{isCode}
 use Rattle.render.proofs.Tested.{or-right}
 

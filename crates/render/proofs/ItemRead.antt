@@ -18,12 +18,14 @@ use Rattle.word.proofs.Words.{both, same-eq}
 use Rattle.grammar.specs.Tokens.{Tok, Ahead, Answer, ok, refused, then, complain, matches, expect}
 use Rattle.grammar.specs.Tokens as Tokens
 use Rattle.grammar.specs.Grammar.{Item, key, keyword, name, own, x, y, semi, value, first, firstKey, second, string, code, ifMore, noName, among, whole}
-use Rattle.grammar.specs.Engine.{Draft, Frame, setFirst, get-name, get-key, expect-key, expect-keyword, expect-ident, parse-number, parse-enum, begins, goesOn, secondKey, parse-second, empty, member, item}
+use Rattle.grammar.specs.Engine.{Draft, Frame, setFirst, get-name, get-key, expect-key, expect-keyword, expect-ident, parse-number, parse-enum, begins, parse-second, empty, member, item}
+use Rattle.grammar.specs.Second.{goesOn, secondKey}
 use Rattle.grammar.specs.Listed.{Stored}
 use Rattle.grammar.specs.Standing.{Every}
 use Rattle.grammar.specs.Reading.{Mark}
 use Rattle.grammar.proofs.Answers.{Ok, Holds, holds-then, holds-after, holds-cond}
 use Rattle.grammar.proofs.Kept.{all, Taken, take-taken}
+use Rattle.grammar.proofs.Second.{second-is-listed}
 use Rattle.grammar.proofs.Codes.{Coded, keyed-seconds, second-coded}
 use Rattle.grammar.proofs.Listed.{number-stored}
 use Rattle.render.specs.Pieces.{said}
@@ -94,15 +96,15 @@ module _ (k : ℕ) (a : Ahead ℕ Mark) where
         go false z = (v, refl)
 
     second-begins : Holds Begins (parse-second k w a)
-    unfolding parse-second parse-enum
-    second-begins =
-        holds-cond Begins (not (goesOn (valuesOf k) w) || (matches Kind.semicolon a && not (eqb (codeOf k w 0) 0))) (ok (codeOf k w 0) a) _ (λ e z. (0, refl))
+    unfolding parse-enum
+    second-begins = rw (second-is-listed k w a)
+        (holds-cond Begins (not (goesOn (valuesOf k) w) || (matches Kind.semicolon a && not (eqb (codeOf k w 0) 0))) (ok (codeOf k w 0) a) _ (λ e z. (0, refl))
         (λ e. holds-cond Begins (eqb (secondKey w) 0) (parse-enum (λ v. cond (eqb v 0) 0 (codeOf k w v)) a) (then (expect-key (secondKey w) a) (λ v b. ok (codeOf k w v) b))
         (λ q. holds-after Begins (get-name a) _ (λ t b.
         let v = wordOf (t .bytes) in
         let c = cond (eqb v 0) 0 (codeOf k w v) in
         holds-cond Begins (eqb c 0) (complain 6 b) (ok c b) (λ e. tt) (λ e. follow v)))
-        (λ q. holds-after Begins (expect-key (secondKey w) a) (λ v b. ok (codeOf k w v) b) (λ v b z. (v, refl))))
+        (λ q. holds-after Begins (expect-key (secondKey w) a) (λ v b. ok (codeOf k w v) b) (λ v b z. (v, refl)))))
 
     second-coded-back : begins (valuesOf k) w ≡ true → keyed-seconds k ≡ true → Holds (λ c. isCode k c ≡ true) (parse-second k w a)
     second-coded-back b s = holds-so (Coded k) Begins (λ c. isCode k c ≡ true) (parse-second k w a)

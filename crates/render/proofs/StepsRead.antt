@@ -11,7 +11,8 @@ use Rattle.word.proofs.Words.{both, clash, same-refl}
 use Rattle.grammar.specs.Tokens.{Tok, Ahead, Answer, ok, refused, take, matches}
 use Rattle.grammar.specs.Grammar.{Block, Item, semi, whole, stay, Act, Row, Body, keyed, worded, options, parts, counted}
 use Rattle.grammar.specs.Table.{body}
-use Rattle.grammar.specs.Engine.{Maybe, none, some, Rec, Draft, Frame, blank, get-name, goesOn, empty, items}
+use Rattle.grammar.specs.Engine.{Maybe, none, some, Rec, Draft, Frame, blank, get-name, empty, items}
+use Rattle.grammar.specs.Second.{goesOn}
 use Rattle.grammar.specs.Turns.{Step, gives, ends, goes, backs, halts, given, ended, gone, actFor, perform, peek-key, judged, step}
 use Rattle.grammar.specs.Standing.{Every}
 use Rattle.grammar.specs.Reading.{Mark}

@@ -11,8 +11,10 @@ use Rattle.word.specs.Codes.{valuesOf, codeOf}
 use Rattle.word.specs.Spelling.{spelling, firstOf, secondOf}
 use Rattle.word.proofs.Words.{both}
 use Rattle.grammar.specs.Tokens.{Ahead, ok, then, matches}
-use Rattle.grammar.specs.Engine.{expect-key, parse-enum, goesOn, secondKey, parse-second}
+use Rattle.grammar.specs.Engine.{expect-key, parse-enum, parse-second}
+use Rattle.grammar.specs.Second.{goesOn, secondKey}
 use Rattle.grammar.specs.Reading.{Mark}
+use Rattle.grammar.proofs.Second.{second-is-listed}
 use Rattle.render.specs.Pieces.{Said}
 use Rattle.render.specs.Says.{isCode, word}
 use Rattle.render.proofs.Tested.{or-right}
@@ -63,10 +65,10 @@ module _ (k c : ℕ) (h : isCode k c ≡ true) where
 
     -- where there is no second word and `;` is held
     pub second-none : eqb v 0 ≡ true → (a : Ahead ℕ Mark) (ts : List Said) → standing a ≡ ts → matches Kind.semicolon a ≡ true → Back (λ u. u ≡ c) ts (parse-second k w a)
-    unfolding parse-second
     second-none e a ts z m =
         let i = code-alone k c h e in
-        back-true (λ u. u ≡ c) ts (alone a) (ok (codeOf k w 0) a) _ (rw (m, i, code-some k c h) (or-right (not (goesOn (valuesOf k) w)) refl)) (i, z)
+        rw (second-is-listed k w a)
+        (back-true (λ u. u ≡ c) ts (alone a) (ok (codeOf k w 0) a) _ (rw (m, i, code-some k c h) (or-right (not (goesOn (valuesOf k) w)) refl)) (i, z))
 
     -- where there is one
     module _ (e : eqb v 0 ≡ false) (a : Ahead ℕ Mark) (ts : List Said) (z : standing a ≡ word v ∷ ts) (s : starts ts ≡ true) where
@@ -83,6 +85,5 @@ module _ (k c : ℕ) (h : isCode k c ≡ true) where
           (λ u b q y. (rw (q, ← i) (code-again k c h), y))
 
       pub second-some : Back (λ u. u ≡ c) ts (parse-second k w a)
-      unfolding parse-second
-      second-some =
-          back-false (λ u. u ≡ c) ts (alone a) (ok (codeOf k w 0) a) _ (rw (code-goes k c h e, held-kind a (word v) ts z)) (taken (eqb (secondKey w) 0) refl)
+      second-some = rw (second-is-listed k w a)
+          (back-false (λ u. u ≡ c) ts (alone a) (ok (codeOf k w 0) a) _ (rw (code-goes k c h e, held-kind a (word v) ts z)) (taken (eqb (secondKey w) 0) refl))

@@ -17,7 +17,7 @@ keys =
     "ANTENNAPARTIALMETALSIDEAREA" ∷ "ANTENNAPARTIALCUTAREA" ∷ "ANTENNAPARTIALDIFFAREA" ∷ "ANTENNAMAXAREACAR" ∷ "ANTENNAMAXSIDEAREACAR" ∷
     "ANTENNAMAXCUTCAR" ∷ "TAPERRULE" ∷ "NETEXPR" ∷ "SUPPLYSENSITIVITY" ∷ "GROUNDSENSITIVITY" ∷ "MUSTJOIN" ∷ "PROPERTY" ∷ []
 
--- the words that are only values, or stand only in UNITS
+-- the other words: those of values, and those that stand inside UNITS, which is a key word itself
 unfoldable pub values : List String
 values =
     "ON" ∷ "OFF" ∷ "PAD" ∷ "CORE" ∷ "X" ∷ "Y" ∷ "R90" ∷ "COVER" ∷ "RING" ∷ "BLOCK" ∷ "BLACKBOX" ∷ "SOFT" ∷ "POWER" ∷ "SPACER" ∷ "AREAIO" ∷ "TIEHIGH" ∷

@@ -2,8 +2,8 @@
 use mathlib.Core.Bool.{or-assoc, or-false, or-self, or-self-left, and-true, and-false}
 use Rattle.word.specs.Words.{keys, values, words, raised, upper, same, firstWhere, wordOf}
 use Rattle.word.specs.Codes.{macroClasses, directions, valuesOf}
-use Rattle.grammar.specs.Engine.{goesOn}
-use Rattle.parser.proofs.Second.{no-second}
+use Rattle.grammar.specs.Second.{goesOn}
+use Rattle.grammar.proofs.Second.{no-second}
 use Rattle.parser.proofs.words.goes_on.Statement.{statement}
 use Rattle.parser.proofs.words.goes_on.Tie as tie
 
