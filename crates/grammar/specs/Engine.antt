@@ -116,15 +116,15 @@ begins (v ∷ u ∷ l) w = eqb v w || begins l w
 abbrev pub alone : {A M : Type 0} → ℕ → ℕ → Ahead A M → Answer A M ℕ
 alone k w a = ok (codeOf k w 0) a
 
--- a second word: no name 4, no value with the first word w 6. The number of what is no word is 0.
+-- a second word v: no name 4; 6 where w and v are no value, or v is no word at all, which has the number 0
 abbrev pub second-word : {A M : Type 0} → ℕ → ℕ → Ahead A M → Answer A M ℕ
 second-word k w a = parse-enum (λ v. cond (eqb v 0) 0 (codeOf k w v)) a
 
--- the second word u, as a key word: no name 4, no key word 5, another 7
+-- the second word u, taken as a key word: no name 4, no key word 5, another 7
 abbrev pub second-key : {A M : Type 0} → ℕ → ℕ → ℕ → Ahead A M → Answer A M ℕ
 second-key k w u a = then (expect-key u a) (λ v b. ok (codeOf k w v) b)
 
--- what stands after the first word w of a value of the kind k; the answer is the code of the value
+-- what stands after the first word w of a value of the kind k, and so the code of the value
 abbrev pub parse-follow : {A M : Type 0} → ℕ → ℕ → Follow → Ahead A M → Answer A M ℕ
 parse-follow k w nothing a = alone k w a
 parse-follow k w optional a = cond (matches Kind.semicolon a) (alone k w a) (second-word k w a)

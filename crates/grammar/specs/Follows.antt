@@ -13,6 +13,7 @@ pub data Follow : Type 0 where
   required : Follow  -- a second word, whatever is held
   optionalKey : String → Follow  -- this key word; nothing where `;` is held
 
+-- a first word, and what stands after it
 pub record First : Type 0 where
   pub begin : String
   pub follow : Follow
@@ -44,7 +45,7 @@ directionFirsts =
 abbrev pub firstsOf : ℕ → List First
 firstsOf kind = cond (eqb kind MACRO-CLASS) classFirsts (cond (eqb kind DIRECTION) directionFirsts [])
 
--- what stands after the word w; one that begins no value is refused before
+-- what stands after the word w; a word that begins no value is refused before
 abbrev pub followIn : List First → ℕ → Follow
 followIn [] w = nothing
 followIn (r ∷ rs) w = cond (eqb (word (r .begin)) w) (r .follow) (followIn rs w)
