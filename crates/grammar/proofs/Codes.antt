@@ -59,7 +59,7 @@ alone-code k w b g = alone-place 1 (valuesOf k) w b g
 abbrev pub Coded : ℕ → ℕ → Type 0
 Coded k c = (1 ≤ c) × (c ≤ pairs (valuesOf k))
 
--- a first word whose second word is a key word goes on with that word alone
+-- a first word whose second word is asked for as a key word goes on with that word alone
 unfoldable pub goes : ℕ → ℕ → Bool
 goes k w = not (goesOn (valuesOf k) w) || leb 1 (codeOf k w (secondKey w))
 

@@ -64,7 +64,7 @@ body Site = keyed 6 (
     ∷ row "END" (close (own ∷ whole 10 ∷ []))
     ∷ [])
 body Symmetry = parts SYMMETRY-WORD (value ∷ [])
--- `parse_macro`
+-- `parse_macro`, but that SOURCE, which it reads, is refused while it is still held
 body Macro = keyed 5 (
     row "CLASS" (statement MACRO-CLASS (first ∷ second ∷ semi ∷ []) stay)
     ∷ row "SITE" (statement MACRO-SITE (name ∷ semi ∷ []) stay)
