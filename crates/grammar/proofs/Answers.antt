@@ -2,12 +2,22 @@
 use Prim.Native.Nat.{ℕ}
 use mathlib.Core.Path.{_≡_, refl}
 use mathlib.Core.Bool.{Bool, true, false, cond, _&&_}
+use native.Mathlib.Omega.{arith}
+use borrow.Author.Tests.{leb-true, le-leb}
 use lib.Dec.{leb}
+use Rattle.word.proofs.Words.{both}
 use Rattle.grammar.specs.Tokens.{Ahead, Answer, ok, refused, then}
 
 -- the numbers of the refusals that reading gives
 abbrev pub ranged : ℕ → Bool
 ranged n = leb 3 n && leb n 10
+
+-- and those of complaints about the token held
+abbrev pub complains : ℕ → Bool
+complains n = leb 4 n && leb n 10
+
+pub complains-ranged : (n : ℕ) → complains n ≡ true → ranged n ≡ true
+complains-ranged n e = let h = both (leb 4 n) (leb n 10) e in rw (le-leb 3 n (omega (arith, leb-true 4 n (h .0))), h .1)
 
 -- an answer where Q holds of what it gives and what is then ahead, or that refuses with one of those numbers
 abbrev pub Ok : {A M B : Type 0} → (B → Ahead A M → Type 0) → Answer A M B → Type 0

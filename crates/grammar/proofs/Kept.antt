@@ -20,7 +20,7 @@ use Rattle.grammar.specs.Grammar.{Item, key, keyword, name, own, x, y, s
 use Rattle.grammar.specs.Engine.{Maybe, none, some, Name, Draft, Frame, setCode, setName, setX, setY, get-name, get-key, expect-key, expect-keyword, expect-ident, valued, parse-number, parse-enum, begins, parse-second, empty, member, nameOf, insideOf, item, passed, items}
 use Rattle.grammar.specs.Second.{goesOn, secondKey}
 use Rattle.grammar.proofs.Second.{second-is-listed}
-use Rattle.grammar.proofs.Answers.{ranged, Ok, ok-then, ok-map, ok-cond, ok-when}
+use Rattle.grammar.proofs.Answers.{complains, complains-ranged, Ok, ok-then, ok-map, ok-cond, ok-when}
 use Rattle.grammar.proofs.Takes.{takes, numbered, all-numbered, eager}
 
 -- the first list ends the second
@@ -173,7 +173,7 @@ module _ {A M : Type 0} where
     item-kept (ifMore n) e = unchanged d here
     item-kept noName e = ok-cond (Kept d a (all a)) (matches Kind.name a) _ _ refl (unchanged d here)
     item-kept (among vs) e = ok-cond (Kept d a (all a)) (member vs (d .rec .x)) _ _ (unchanged d here) refl
-    item-kept (whole n) e = ok-cond (Kept d a (all a)) (empty (f .lacks)) _ _ (unchanged d here) e
+    item-kept (whole n) e = ok-cond (Kept d a (all a)) (empty (f .lacks)) _ _ (unchanged d here) (complains-ranged n e)
 
   -- one after the other
   further : {d e g : Draft A} {a b c : Ahead A M} {l : List (Tok A M)} → Suf l (all a) → Kept d a l e b → Kept e b (all b) g c → Kept d a l g c
@@ -224,10 +224,10 @@ module _ {A M : Type 0} where
   unfolding takes numbered eager all-numbered
   semi-kept f d a = eager-kept f (semi ∷ []) refl refl d a
 
-  pub whole-kept : (n : ℕ) → ranged n ≡ true → (f : Frame A) (d : Draft A) (a : Ahead A M) → Ok (Kept d a (a .rest)) (items 0 f (whole n ∷ semi ∷ []) d a)
+  pub whole-kept : (n : ℕ) → complains n ≡ true → (f : Frame A) (d : Draft A) (a : Ahead A M) → Ok (Kept d a (a .rest)) (items 0 f (whole n ∷ semi ∷ []) d a)
   unfolding items item
   whole-kept n r f d a = go (empty (f .lacks))
     where
       go : (c : Bool) → Ok (Kept d a (a .rest)) (then (cond c (ok d a) (complain n a)) (λ e b. items 0 f (semi ∷ []) e b))
       go true = semi-kept f d a
-      go false = r
+      go false = complains-ranged n r

@@ -6,9 +6,11 @@ pub mod Kept
 pub mod Steps
 pub mod Turned
 pub mod Falls
+pub mod Marks
 pub mod Rises
 pub mod Places
 pub mod Every
 pub mod Codes
 pub mod Listed
 pub mod Ranges
+pub mod Refusals

@@ -11,18 +11,18 @@ use Rattle.grammar.specs.Tokens.{Tok, Ahead, Answer, ok, refused, then, 
 use Rattle.grammar.specs.Grammar.{Block, Item, semi, whole, Move, stay, Act, statement, close, refuse, back, upTo54, Row, Body, keyed, worded, options, parts, counted}
 use Rattle.grammar.specs.Engine.{Rec, Draft, Frame, blank, get-name, items, empty}
 use Rattle.grammar.specs.Turns.{Step, gives, ends, goes, backs, halts, given, ended, gone, actFor, perform, peek-key, judged, step}
-use Rattle.grammar.proofs.Answers.{ranged, Ok, Holds, holds-after}
+use Rattle.grammar.proofs.Answers.{ranged, complains, complains-ranged, Ok, Holds, holds-after}
 use Rattle.grammar.proofs.Takes.{all-numbered, eager}
 use Rattle.grammar.proofs.Kept.{Suf, all, Named, Taken, take-taken, expect-taken, Kept, worded-kept, eager-kept, semi-kept, whole-kept}
 
 -- A TEST OF THE TABLE: what gives a record passes the test `fit` of kind and items, each part begins with an item that takes,
--- and each number is one of a refusal
+-- and each number is one of a complaint
 
 module _ (fit : ℕ → List Item → Bool) where
   unfoldable pub fit-act : Act → Bool
   fit-act (statement k is m) = fit k is && all-numbered is
   fit-act (close is) = all-numbered is
-  fit-act (refuse n) = ranged n
+  fit-act (refuse n) = complains n
   fit-act back = true
   fit-act (upTo54 act) = fit-act act
 
@@ -34,13 +34,13 @@ module _ (fit : ℕ → List Item → Bool) where
   fit-part k is = fit k is && (eager is && all-numbered is)
 
   unfoldable pub fit-body : Body → Bool
-  fit-body (keyed n rows) = ranged n && fit-rows rows
+  fit-body (keyed n rows) = complains n && fit-rows rows
   fit-body (worded rows) = fit-rows rows
   fit-body (options rows b) = fit-rows rows
   fit-body (parts k is) = fit-part k is
   fit-body (counted k is) = fit-part k is
 
-  act-fits : (n k : ℕ) (rows : List Row) → ranged n ≡ true → fit-rows rows ≡ true → fit-act (actFor n k rows) ≡ true
+  pub act-fits : (n k : ℕ) (rows : List Row) → complains n ≡ true → fit-rows rows ≡ true → fit-act (actFor n k rows) ≡ true
   unfolding actFor fit-rows fit-act
   act-fits n k [] r s = r
   act-fits n k (w ∷ ws) r s = let h = both (fit-act (w .act)) (fit-rows ws) s in go (eqb (word (w .begin)) k) (h .0) (act-fits n k ws r (h .1))
@@ -96,7 +96,7 @@ module _ {A M : Type 0} (fit : ℕ → List Item → Bool) (P : Rec A → Type 0
       given-stepped P f a k m (then taken (λ t b. items 0 f is (blank k f a) b)) (worded-kept f is (z .1) (blank k f a) a taken t)
       (holds-after (λ d. P (d .rec)) taken (λ t b. items 0 f is (blank k f a) b) (λ t b. h k is (z .0) f a b))
   perform-stepped taken t p (close is) s = ended-stepped P f a (then taken (λ t b. items 0 f is (blank 0 f a) b)) (worded-kept f is s (blank 0 f a) a taken t)
-  perform-stepped taken t p (refuse n) s = s
+  perform-stepped taken t p (refuse n) s = complains-ranged n s
   perform-stepped taken t p back s = tt
   perform-stepped taken t p (upTo54 act) s = stepped-cond P f a (leb v 5400000) (perform v f a taken p act) (halts 5 p) (perform-stepped taken t p act s) refl
 
@@ -113,7 +113,7 @@ module _ {A M : Type 0} (fit : ℕ → List Item → Bool) (P : Rec A → Type 0
 
   pub step-stepped : (b : Body) → fit-body fit b ≡ true → Stepped P f a (step v f a b)
   unfolding step peek-key fit-body
-  step-stepped (keyed n rows) s = let z = both (ranged n) (fit-rows fit rows) s in let w = wordOf (a .held .bytes) in
+  step-stepped (keyed n rows) s = let z = both (complains n) (fit-rows fit rows) s in let w = wordOf (a .held .bytes) in
       stepped-cond P f a (matches Kind.name a) _ (halts 4 (a .held .mark))
       (stepped-cond P f a (isKey w) (perform v f a (take a) (a .held .mark) (actFor n w rows)) (halts 5 (a .held .mark))
       (perform-stepped (take a) (take-taken a) (a .held .mark) (actFor n w rows) (act-fits fit n w rows (z .0) (z .1))) refl) refl

@@ -1,8 +1,8 @@
--- What the table says of an item by itself: whether it takes a token, and whether its number is one of a refusal.
+-- What the table says of an item by itself: whether it takes a token, and whether its number is one of a complaint.
 use mathlib.Core.Bool.{Bool, true, false, _&&_}
 use mathlib.Core.List.{List, [], _∷_}
 use Rattle.grammar.specs.Grammar.{Item, key, keyword, name, own, x, y, semi, value, first, firstKey, second, string, code, ifMore, noName, among, whole}
-use Rattle.grammar.proofs.Answers.{ranged}
+use Rattle.grammar.proofs.Answers.{complains}
 
 -- does the item take a token, whatever is held?
 unfoldable pub takes : Item → Bool
@@ -24,7 +24,7 @@ takes noName = false
 takes (among vs) = false
 takes (whole n) = false
 
--- is the number that the item names one of a refusal?
+-- is the number that the item names one of a complaint?
 unfoldable pub numbered : Item → Bool
 numbered (key w) = true
 numbered (keyword w) = true
@@ -42,7 +42,7 @@ numbered (code c) = true
 numbered (ifMore n) = true
 numbered noName = true
 numbered (among vs) = true
-numbered (whole n) = ranged n
+numbered (whole n) = complains n
 
 unfoldable pub all-numbered : List Item → Bool
 all-numbered [] = true

@@ -35,7 +35,7 @@ shift-open version k p label u v f fs known h = open-more (some p) known (f ∷ 
 -- A TURN
 
 -- the table passes where nothing is asked of a record
-any-fits : (b : Block) → fit-body (λ k is. true) (body b) ≡ true
+pub any-fits : (b : Block) → fit-body (λ k is. true) (body b) ≡ true
 unfolding fit-body fit-rows fit-act eager takes all-numbered numbered
 any-fits = at-block (fit-body (λ k is. true)) refl
 

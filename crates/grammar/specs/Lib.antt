@@ -8,4 +8,5 @@ pub mod Turns
 pub mod Reading
 pub mod Examples
 pub mod Standing
+pub mod Refusals
 pub mod Listed

@@ -5,6 +5,7 @@ pub mod First
 pub mod Whole
 pub mod Places
 pub mod Lines
+pub mod Stops
 pub mod Cleared
 pub mod Answers
 pub mod Edge
