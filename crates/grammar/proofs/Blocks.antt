@@ -6,11 +6,8 @@ use mathlib.Core.List.{List, [], _∷_}
 use native.Mathlib.Omega.{arith}
 use lib.ListN.{length, getD}
 use Rattle.word.proofs.Words.{both}
-use Rattle.grammar.specs.Grammar.{Block, Library, Units, Site, Symmetry, Macro, Pin, Port, Obs, Options, Layer, Rect, Polygon, Path, Body}
+use Rattle.grammar.specs.Grammar.{Block, blocks, Library, Units, Site, Symmetry, Macro, Pin, Port, Obs, Options, Layer, Rect, Polygon, Path, Body}
 use Rattle.grammar.specs.Table.{body}
-
-abbrev blocks : List Block
-blocks = Library ∷ Units ∷ Site ∷ Symmetry ∷ Macro ∷ Pin ∷ Port ∷ Obs ∷ Options ∷ Layer ∷ Rect ∷ Polygon ∷ Path ∷ []
 
 abbrev all : (Body → Bool) → List Block → Bool
 all f [] = true

@@ -1,10 +1,13 @@
 -- What a grammar can say: the blocks, what a block is made of, and the items of a statement.
 use Prim.Native.Nat.{ℕ}
 use Prim.Native.String.{String}
-use mathlib.Core.List.{List}
+use mathlib.Core.List.{List, [], _∷_}
 
 pub data Block : Type 0 where
   Library Units Site Symmetry Macro Pin Port Obs Options Layer Rect Polygon Path : Block
+
+abbrev pub blocks : List Block
+blocks = Library ∷ Units ∷ Site ∷ Symmetry ∷ Macro ∷ Pin ∷ Port ∷ Obs ∷ Options ∷ Layer ∷ Rect ∷ Polygon ∷ Path ∷ []
 
 -- one item of a statement, and the refusals that it can give
 pub data Item : Type 0 where

@@ -6,6 +6,7 @@ pub mod Engine
 pub mod Second
 pub mod Turns
 pub mod Reading
+pub mod Cited
 pub mod Examples
 pub mod Standing
 pub mod Refusals

@@ -7,65 +7,109 @@ use lib.Dec.{eqb}
 use Rattle.record.specs.Kinds.{NAMESCASESENSITIVE, NOWIREEXTENSIONATPIN, SITE-CLASS, SYMMETRY-WORD, MACRO-CLASS, DIRECTION, USE, SHAPE, ANTENNAMODEL, ANTENNA, PORT-CLASS, LAYER-OPTION}
 use Rattle.word.specs.Words.{word}
 
--- a value is a word by itself, or a word with a second one: two numbers, of which the second may be 0
-abbrev pub one : String → List ℕ
-one w = word w ∷ 0 ∷ []
+-- a value is a word by itself, or a word with a second one
+pub data Value : Type 0 where
+  one : String → Value
+  two : String → String → Value
 
-abbrev pub two : String → String → List ℕ
-two w v = word w ∷ word v ∷ []
-
--- a word with each of several second words
-abbrev pub with : String → List String → List ℕ
-with w [] = []
-with w (v ∷ vs) = two w v ++ with w vs
-
-abbrev pub each : List String → List ℕ
+-- words by themselves, and a word with each of several second words
+abbrev each : List String → List Value
 each [] = []
-each (w ∷ ws) = one w ++ each ws
+each (w ∷ ws) = one w ∷ each ws
 
-unfoldable pub onOff : List ℕ
-onOff = each ("ON" ∷ "OFF" ∷ [])
+abbrev with : String → List String → List Value
+with w [] = []
+with w (v ∷ vs) = two w v ∷ with w vs
 
-unfoldable pub siteClasses : List ℕ
-siteClasses = each ("PAD" ∷ "CORE" ∷ [])
+-- THE VALUES, in words
 
-unfoldable pub symmetries : List ℕ
-symmetries = each ("X" ∷ "Y" ∷ "R90" ∷ [])
+abbrev onOffWords : List Value
+onOffWords = each ("ON" ∷ "OFF" ∷ [])
 
-unfoldable pub macroClasses : List ℕ
-macroClasses =
-    one "COVER" ++ two "COVER" "BUMP"
-    ++ one "RING"
-    ++ one "BLOCK" ++ with "BLOCK" ("BLACKBOX" ∷ "SOFT" ∷ [])
-    ++ one "PAD" ++ with "PAD" ("INPUT" ∷ "OUTPUT" ∷ "INOUT" ∷ "POWER" ∷ "SPACER" ∷ "AREAIO" ∷ [])
-    ++ one "CORE" ++ with "CORE" ("FEEDTHRU" ∷ "TIEHIGH" ∷ "TIELOW" ∷ "SPACER" ∷ "ANTENNACELL" ∷ "WELLTAP" ∷ [])
+abbrev siteClassWords : List Value
+siteClassWords = each ("PAD" ∷ "CORE" ∷ [])
+
+abbrev symmetryWords : List Value
+symmetryWords = each ("X" ∷ "Y" ∷ "R90" ∷ [])
+
+abbrev macroClassWords : List Value
+macroClassWords =
+    (one "COVER" ∷ two "COVER" "BUMP" ∷ one "RING" ∷ one "BLOCK" ∷ with "BLOCK" ("BLACKBOX" ∷ "SOFT" ∷ []))
+    ++ (one "PAD" ∷ with "PAD" ("INPUT" ∷ "OUTPUT" ∷ "INOUT" ∷ "POWER" ∷ "SPACER" ∷ "AREAIO" ∷ []))
+    ++ (one "CORE" ∷ with "CORE" ("FEEDTHRU" ∷ "TIEHIGH" ∷ "TIELOW" ∷ "SPACER" ∷ "ANTENNACELL" ∷ "WELLTAP" ∷ []))
     ++ with "ENDCAP" ("PRE" ∷ "POST" ∷ "TOPLEFT" ∷ "TOPRIGHT" ∷ "BOTTOMLEFT" ∷ "BOTTOMRIGHT" ∷ [])
 
-unfoldable pub directions : List ℕ
-directions = one "INPUT" ++ one "OUTPUT" ++ two "OUTPUT" "TRISTATE" ++ one "INOUT" ++ one "FEEDTHRU"
+abbrev directionWords : List Value
+directionWords = one "INPUT" ∷ one "OUTPUT" ∷ two "OUTPUT" "TRISTATE" ∷ one "INOUT" ∷ one "FEEDTHRU" ∷ []
 
-unfoldable pub uses : List ℕ
-uses = each ("SIGNAL" ∷ "ANALOG" ∷ "POWER" ∷ "GROUND" ∷ "CLOCK" ∷ [])
+abbrev useWords : List Value
+useWords = each ("SIGNAL" ∷ "ANALOG" ∷ "POWER" ∷ "GROUND" ∷ "CLOCK" ∷ [])
 
-unfoldable pub shapes : List ℕ
-shapes = each ("ABUTMENT" ∷ "RING" ∷ "FEEDTHRU" ∷ [])
+abbrev shapeWords : List Value
+shapeWords = each ("ABUTMENT" ∷ "RING" ∷ "FEEDTHRU" ∷ [])
 
-unfoldable pub antennaModels : List ℕ
-antennaModels = each ("OXIDE1" ∷ "OXIDE2" ∷ "OXIDE3" ∷ "OXIDE4" ∷ [])
+abbrev antennaModelWords : List Value
+antennaModelWords = each ("OXIDE1" ∷ "OXIDE2" ∷ "OXIDE3" ∷ "OXIDE4" ∷ [])
 
 -- in the order of `parse_pin`
-unfoldable pub antennaKeys : List ℕ
-antennaKeys =
+abbrev antennaKeyWords : List Value
+antennaKeyWords =
     each (
     "ANTENNADIFFAREA" ∷ "ANTENNAGATEAREA" ∷ "ANTENNAPARTIALMETALAREA" ∷ "ANTENNAPARTIALMETALSIDEAREA" ∷ "ANTENNAPARTIALCUTAREA"
     ∷ "ANTENNAPARTIALDIFFAREA" ∷ "ANTENNAMAXAREACAR" ∷ "ANTENNAMAXSIDEAREACAR" ∷ "ANTENNAMAXCUTCAR" ∷ []
     )
 
+abbrev portClassWords : List Value
+portClassWords = each ("NONE" ∷ "CORE" ∷ "BUMP" ∷ [])
+
+abbrev layerOptionWords : List Value
+layerOptionWords = each ("EXCEPTPGNET" ∷ "SPACING" ∷ "DESIGNRULEWIDTH" ∷ [])
+
+-- all of them
+abbrev pub allValues : List Value
+allValues =
+    onOffWords ++ siteClassWords ++ symmetryWords ++ macroClassWords ++ directionWords
+    ++ useWords ++ shapeWords ++ antennaModelWords ++ antennaKeyWords ++ portClassWords ++ layerOptionWords
+
+-- IN NUMBERS, two for each value, of which the second is 0 where there is no second word
+
+abbrev numbers : List Value → List ℕ
+numbers [] = []
+numbers (one w ∷ vs) = word w ∷ 0 ∷ numbers vs
+numbers (two w v ∷ vs) = word w ∷ word v ∷ numbers vs
+
+unfoldable pub onOff : List ℕ
+onOff = numbers onOffWords
+
+unfoldable pub siteClasses : List ℕ
+siteClasses = numbers siteClassWords
+
+unfoldable pub symmetries : List ℕ
+symmetries = numbers symmetryWords
+
+unfoldable pub macroClasses : List ℕ
+macroClasses = numbers macroClassWords
+
+unfoldable pub directions : List ℕ
+directions = numbers directionWords
+
+unfoldable pub uses : List ℕ
+uses = numbers useWords
+
+unfoldable pub shapes : List ℕ
+shapes = numbers shapeWords
+
+unfoldable pub antennaModels : List ℕ
+antennaModels = numbers antennaModelWords
+
+unfoldable pub antennaKeys : List ℕ
+antennaKeys = numbers antennaKeyWords
+
 unfoldable pub portClasses : List ℕ
-portClasses = each ("NONE" ∷ "CORE" ∷ "BUMP" ∷ [])
+portClasses = numbers portClassWords
 
 unfoldable pub layerOptions : List ℕ
-layerOptions = each ("EXCEPTPGNET" ∷ "SPACING" ∷ "DESIGNRULEWIDTH" ∷ [])
+layerOptions = numbers layerOptionWords
 
 -- the values of each kind
 unfoldable pub valuesOf : ℕ → List ℕ

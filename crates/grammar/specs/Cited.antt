@@ -1,0 +1,71 @@
+-- EVERY WORD THAT THE GRAMMAR AND ITS VALUES CITE IS IN THE TABLE OF WORDS, by one computed test: another would have the number 0.
+use Prim.Native.String.{String}
+use mathlib.Core.Path.{_≡_, refl}
+use mathlib.Core.Bool.{Bool, true, not, _&&_}
+use mathlib.Core.List.{List, [], _∷_, _++_}
+use lib.Dec.{eqb}
+use Rattle.word.specs.Words.{keys, values, words, raised, upper, same, firstWhere, wordOf, word}
+use Rattle.word.specs.Codes.{Value, one, two, allValues}
+use Rattle.grammar.specs.Grammar.{Block, blocks, Item, key, keyword, name, own, x, y, semi, value, first, firstKey, second, string, code, ifMore, noName, among, whole, Act, statement, close, refuse, back, upTo54, Row, Body, keyed, worded, options, parts, counted}
+use Rattle.grammar.specs.Table.{body}
+
+-- the words that are cited by an item, a list of items, an act, rows, a body, the bodies of blocks, and values
+
+abbrev ofItem : Item → List String
+ofItem (key w) = w ∷ []
+ofItem (keyword w) = w ∷ []
+ofItem name = []
+ofItem own = []
+ofItem x = []
+ofItem y = []
+ofItem semi = []
+ofItem value = []
+ofItem first = []
+ofItem firstKey = []
+ofItem second = []
+ofItem (string n) = []
+ofItem (code c) = []
+ofItem (ifMore n) = []
+ofItem noName = []
+ofItem (among vs) = []
+ofItem (whole n) = []
+
+abbrev ofItems : List Item → List String
+ofItems [] = []
+ofItems (i ∷ is) = ofItem i ++ ofItems is
+
+abbrev ofAct : Act → List String
+ofAct (statement k is m) = ofItems is
+ofAct (close is) = ofItems is
+ofAct (refuse n) = []
+ofAct back = []
+ofAct (upTo54 act) = ofAct act
+
+abbrev ofRows : List Row → List String
+ofRows [] = []
+ofRows (w ∷ ws) = (w .begin ∷ ofAct (w .act)) ++ ofRows ws
+
+abbrev ofBody : Body → List String
+ofBody (keyed n rows) = ofRows rows
+ofBody (worded rows) = ofRows rows
+ofBody (options rows b) = ofRows rows
+ofBody (parts k is) = ofItems is
+ofBody (counted k is) = ofItems is
+
+abbrev ofBlocks : List Block → List String
+ofBlocks [] = []
+ofBlocks (b ∷ bs) = ofBody (body b) ++ ofBlocks bs
+
+abbrev ofValues : List Value → List String
+ofValues [] = []
+ofValues (one w ∷ vs) = w ∷ ofValues vs
+ofValues (two w v ∷ vs) = w ∷ v ∷ ofValues vs
+
+-- is each word in the table?
+abbrev known : List String → Bool
+known [] = true
+known (w ∷ ws) = not (eqb (word w) 0) && known ws
+
+pub all-known : known (ofBlocks blocks ++ ofValues allValues) ≡ true
+unfolding keys values words raised upper same firstWhere wordOf
+all-known = refl
