@@ -8,8 +8,10 @@ use Rattle.word.specs.Words.{keys, values, words, raised, upper, same, firstWhe
 use Rattle.word.specs.Codes.{Value, one, two, allValues}
 use Rattle.grammar.specs.Grammar.{Block, blocks, Item, key, keyword, name, own, x, y, semi, value, first, firstKey, second, string, code, ifMore, noName, among, whole, Act, statement, close, refuse, back, upTo54, Row, Body, keyed, worded, options, parts, counted}
 use Rattle.grammar.specs.Table.{body}
+use Rattle.grammar.specs.Follows.{Follow, nothing, optional, required, optionalKey, First, classFirsts, directionFirsts}
 
--- the words that are cited by an item, a list of items, an act, rows, a body, the bodies of blocks, and values
+-- the words that are cited by an item, a list of items, an act, rows, a body, the bodies of blocks, values, and what stands after first
+-- words
 
 abbrev ofItem : Item → List String
 ofItem (key w) = w ∷ []
@@ -61,11 +63,21 @@ ofValues [] = []
 ofValues (one w ∷ vs) = w ∷ ofValues vs
 ofValues (two w v ∷ vs) = w ∷ v ∷ ofValues vs
 
+abbrev ofFollow : Follow → List String
+ofFollow nothing = []
+ofFollow optional = []
+ofFollow required = []
+ofFollow (optionalKey w) = w ∷ []
+
+abbrev ofFirsts : List First → List String
+ofFirsts [] = []
+ofFirsts (r ∷ rs) = (r .begin ∷ ofFollow (r .follow)) ++ ofFirsts rs
+
 -- is each word in the table?
 abbrev known : List String → Bool
 known [] = true
 known (w ∷ ws) = not (eqb (word w) 0) && known ws
 
-pub all-known : known (ofBlocks blocks ++ ofValues allValues) ≡ true
+pub all-known : known (ofBlocks blocks ++ ofValues allValues ++ ofFirsts (classFirsts ++ directionFirsts)) ≡ true
 unfolding keys values words raised upper same firstWhere wordOf
 all-known = refl
