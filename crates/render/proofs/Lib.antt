@@ -42,6 +42,9 @@ pub mod Matched
 pub mod BlocksBack
 pub mod ListsBack
 pub mod Opened
+pub mod OwnersOpen
+pub mod Places
+pub mod LaidLines
 pub mod Nested
 pub mod Coming
 pub mod ListsRead
@@ -50,5 +53,6 @@ pub mod Unplaced
 pub mod Renamed
 pub mod AheadWritten
 pub mod Theorems
+pub mod LaidOut
 pub mod Widths
 pub mod Short

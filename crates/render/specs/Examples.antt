@@ -1,7 +1,7 @@
 -- Worked examples of writing, each computed from the definition.
 use mathlib.Core.Path.{_≡_, refl}
 use mathlib.Core.Bool.{Bool, true, false}
-use mathlib.Core.List.{List, []}
+use mathlib.Core.List.{List, [], _∷_, map}
 use Prim.Native.Nat.{ℕ}
 use Rattle.text.specs.Text.{bytes}
 use Rattle.lexer.specs.Bytes.{classOf}
@@ -13,17 +13,18 @@ use Rattle.word.specs.Words.{keys, values, words, raised, upper, same, firstWhe
 use Rattle.word.specs.Codes.{onOff, siteClasses, symmetries, macroClasses, directions, uses, shapes, antennaModels, antennaKeys, portClasses, layerOptions, valuesOf, placeOf, codeOf}
 use Rattle.word.specs.Spelling.{spelling, firstOf, secondOf}
 use Rattle.grammar.specs.Tokens.{next, expect}
-use Rattle.grammar.specs.Engine.{get-key, expect-key, expect-keyword, expect-ident, parse-number, parse-enum, parse-second, empty, member, item, items}
+use Rattle.grammar.specs.Engine.{Maybe, none, some, get-key, expect-key, expect-keyword, expect-ident, parse-number, parse-enum, parse-second, empty, member, item, items}
 use Rattle.grammar.specs.Engine as Engine
 use Rattle.grammar.specs.Turns.{without, actFor, perform, peek-key, step, turn, turns}
 use Rattle.grammar.specs.Reading.{Reading, records, refusal-of, readAhead, reading}
 use Rattle.render.specs.Pieces.{text}
 use Rattle.render.specs.Spelt.{all, isName, isString, isToken, isSpelt}
-use Rattle.render.specs.Plain.{indexIn, aside}
+use Rattle.render.specs.Plain.{Plain, indexIn, aside}
 use Rattle.render.specs.Says.{isCode, says, shows, any, omitted, saysAll, holds, holdsAll, gives, givesAll}
 use Rattle.render.specs.Forms.{formsOf, rowForms, formsIn, ofCode, isOf, formFor, begins, saidIn, closeOf, lastWords}
 use Rattle.render.specs.Lines.{spaced, indented, line, onLine, endAll, pieces, after, lines, render}
 use Rattle.render.specs.Fit.{suits, admits, allEnd, fitFrom, indexed, isFit}
+use Rattle.render.specs.Layout.{onOwnersLine, closesWithEnd, chain, endsUpTo, rows}
 
 -- the written text of what a text reads as
 abbrev rewritten : List ℕ → Reading → List ℕ
@@ -50,3 +51,18 @@ written = refl
 pub fit : fits sample ≡ true
 unfolding classOf run answers from head screened keys values words raised upper same firstWhere wordOf isKey onOff siteClasses symmetries macroClasses directions uses shapes antennaModels antennaKeys portClasses layerOptions valuesOf placeOf codeOf next expect get-key expect-key expect-keyword expect-ident parse-number parse-enum Engine.begins parse-second empty member item items without actFor perform peek-key step turn turns readAhead reading natural fraction shortest text indexIn aside spelling firstOf secondOf says shows any omitted saysAll formsOf rowForms formsIn ofCode isOf formFor begins saidIn closeOf lastWords all isName isString isToken isSpelt isCode holds holdsAll gives givesAll onLine after suits admits allEnd fitFrom indexed isFit
 fit = refl
+
+-- a record of a kind, by its index and that of its owner
+abbrev bareRecord : ℕ → ℕ → Maybe ℕ → Plain
+bareRecord k i o = record { kind = k; code = 0; at = i; owner = o; name = []; x = 0; y = 0 }
+
+-- MACRO, PIN, PORT, LAYER, RECT and two points; then the macro's OBS
+abbrev nested : List Plain
+nested =
+    bareRecord 13 0 none ∷ bareRecord 18 1 (some 0) ∷ bareRecord 24 2 (some 1) ∷ bareRecord 27 3 (some 2) ∷ bareRecord 30 4 (some 3)
+    ∷ bareRecord 33 5 (some 4) ∷ bareRecord 33 6 (some 4) ∷ bareRecord 26 7 (some 0) ∷ []
+
+-- five lines, END of the PORT and of the PIN, the OBS and its END, END of the MACRO, END LIBRARY
+pub depths : map (λ e. e .depth) (rows [] nested) ≡ 0 ∷ 1 ∷ 2 ∷ 3 ∷ 4 ∷ 2 ∷ 1 ∷ 1 ∷ 1 ∷ 0 ∷ 0 ∷ []
+unfolding member onOwnersLine closesWithEnd chain endsUpTo rows
+depths = refl

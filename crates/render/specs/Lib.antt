@@ -6,5 +6,6 @@ pub mod Says
 pub mod Forms
 pub mod Lines
 pub mod Fit
+pub mod Layout
 pub mod Written
 pub mod Examples
