@@ -222,6 +222,7 @@ static void look_ups(void) {
     expect("its index", index, 7);
     expect("no whole record", lef_in_force(buffer, size - 1, 8, LEF_DIRECTION, 0, &index, &place, &line), LEF_NOT_WHOLE);
     expect("its length", place, size - 1);
+    expect("no index", index, UINT64_MAX);
     expect("owners", lef_owners(buffer, size, 9, &count, &place, &line), LEF_DONE);
     expect("their count", count, 5);
     expect("past the file", lef_owners(buffer, size, n, &count, &place, &line), LEF_DONE);

@@ -115,7 +115,7 @@ uint64_t lef_write(const uint8_t *text, size_t text_len, const uint8_t *records,
 uint64_t lef_token(const uint8_t *text, size_t text_len, uint64_t from, uint64_t *kind, uint64_t *start, uint64_t *stop, uint64_t *place, uint64_t *line);
 
 /* The index of the record in force: of those with the owner and the kind (and the code, for LEF_LAYER_OPTION, where 2 and 3 count as
- * one) the one with the greatest `at`; UINT64_MAX where there is none, and for kinds that all count. Refused 13. */
+ * one) the one with the greatest `at`; UINT64_MAX where there is none, for kinds that all count, and on a refusal. Refused 13. */
 uint64_t lef_in_force(const uint8_t *records, size_t records_len, uint64_t owner, uint64_t kind, uint64_t code, uint64_t *index, uint64_t *place, uint64_t *line);
 
 /* How many owners the record at the index has, from the one that encloses it out to the library's. Refused 13. */

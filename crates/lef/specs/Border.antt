@@ -1,6 +1,6 @@
 -- THE NUMBERS THAT CROSS THE BORDER: what each call hands back for the bytes and numbers that it is given. The number of the refusal is
--- returned; every other number is written behind its pointer, 0 where it has no meaning.
-use Prim.Native.Nat.{ℕ, _+_, _-_, _^_}
+-- returned; every other number is written behind its pointer, 0 where it has no meaning, but an index is `noIndex` there.
+use Prim.Native.Nat.{ℕ, _+_}
 use mathlib.Core.Bool.{cond}
 use mathlib.Core.List.{List}
 use lib.Dec.{leb}
@@ -10,7 +10,6 @@ use Rattle.file.specs.declared.Found.{Found}
 use Rattle.file.specs.File.{recordAt}
 use Rattle.lexer.specs.Answer as T
 use Rattle.lexer.specs.Answer.{firstToken}
-use Rattle.lookup.specs.declared.InForce.{InForce}
 use Rattle.lookup.specs.Force as F
 use Rattle.lookup.specs.Force.{inForce}
 use Rattle.lookup.specs.Chain as C
@@ -43,21 +42,9 @@ writeBuffer text records out = W.filled text records out
 abbrev pub tokenNumbers : List ℕ → ℕ → T.Numbers
 tokenNumbers text place = T.numbers text (firstToken text place)
 
--- `lef_in_force`: refusal, place and line
+-- `lef_in_force`: refusal, place, line and index; no index is `noIndex`, the largest number
 abbrev pub forceNumbers : List ℕ → ℕ → ℕ → ℕ → F.Numbers
 forceNumbers records owner kind code = F.numbers (inForce records owner kind code)
-
--- and the index: none is the largest number, which is the index of no record
-abbrev pub none : ℕ
-none = 2 ^ 64 - 1
-
-abbrev pub indexOf : InForce → ℕ
-indexOf (InForce.At i) = i
-indexOf InForce.None = none
-indexOf (InForce.Refused r) = 0
-
-abbrev pub forceIndex : List ℕ → ℕ → ℕ → ℕ → ℕ
-forceIndex records owner kind code = indexOf (inForce records owner kind code)
 
 -- `lef_owners`: refusal, place, line and count
 abbrev pub ownersNumbers : List ℕ → ℕ → C.Numbers

@@ -1,7 +1,7 @@
 // The C border of the library: calls on numbers and byte slices. Each returns the number of a refusal, 0 where there is none, and writes
 // all its other results behind the pointers that it is given.
 ghost use mathlib.Core.Path.{_≡_};
-ghost use Rattle.lef.specs.Border.{readNumbers, readBuffer, checkNumbers, writeNumbers, writeBuffer, tokenNumbers, forceNumbers, forceIndex, ownersNumbers, nameSpan};
+ghost use Rattle.lef.specs.Border.{readNumbers, readBuffer, checkNumbers, writeNumbers, writeBuffer, tokenNumbers, forceNumbers, ownersNumbers, nameSpan};
 use crate::told::byte_or;
 use crate::told::leave;
 use crate::told::span_of;
@@ -16,7 +16,7 @@ use refusal::Refusal;
 
 mod told;
 
-// The index where no record is in force.
+// What stands for no index: where no record is in force, and on a refusal.
 const NONE: u64 = 18446744073709551615;
 
 // The records of a text, into the buffer.
@@ -105,7 +105,7 @@ pub extern "C" fn lef_in_force(
     line: &mut u64,
 ) -> u64
     ensures { λ r. ⌜ r ≡ forceNumbers (now (records .entry)) owner kind code .refusal ⌝ }
-    ensures { λ _. ⌜ now (index .exit) ≡ forceIndex (now (records .entry)) owner kind code ⌝ }
+    ensures { λ _. ⌜ now (index .exit) ≡ forceNumbers (now (records .entry)) owner kind code .index ⌝ }
     ensures { λ _. ⌜ now (place .exit) ≡ forceNumbers (now (records .entry)) owner kind code .place ⌝ }
     ensures { λ _. ⌜ now (line .exit) ≡ forceNumbers (now (records .entry)) owner kind code .line ⌝ }
 {
@@ -124,7 +124,7 @@ pub extern "C" fn lef_in_force(
             tell(Refusal::done(0), place, line)
         }
         InForce::Refused(refusal) => {
-            *index = 0;
+            *index = NONE;
             tell(refusal, place, line)
         }
     }

@@ -1,5 +1,5 @@
 -- The record in force for an owner and a kind (and a code, for an option of a LAYER).
-use Prim.Native.Nat.{ℕ, _≤_, _<_}
+use Prim.Native.Nat.{ℕ, _-_, _^_, _≤_, _<_}
 use mathlib.Core.Path.{_≡_}
 use mathlib.Core.Bool.{Bool, true, cond, not, _&&_, _||_}
 use mathlib.Core.List.{List}
@@ -55,15 +55,18 @@ inForce file owner kind code =
     (cond (allCount kind) InForce.None (told (latest (asked owner kind code) (held file))))
     (InForce.Refused (refused notWhole (length file) 0))
 
--- the numbers of an answer: refusal, place and line, then 1 with the index of the record in force, or twice 0
+-- the number that stands for no index: the largest of 64 bits, which is the index of no record
+abbrev pub noIndex : ℕ
+noIndex = 2 ^ 64 - 1
+
+-- the numbers of an answer: refusal, place and line, then the index of the record in force
 pub record Numbers : Type 0 where
   pub refusal : ℕ
   pub place : ℕ
   pub line : ℕ
-  pub found : ℕ
   pub index : ℕ
 
 abbrev pub numbers : InForce → Numbers
-numbers (InForce.At i) = record { refusal = 0; place = 0; line = 0; found = 1; index = i }
-numbers InForce.None = record { refusal = 0; place = 0; line = 0; found = 0; index = 0 }
-numbers (InForce.Refused r) = record { refusal = r .number; place = r .place; line = r .line; found = 0; index = 0 }
+numbers (InForce.At i) = record { refusal = 0; place = 0; line = 0; index = i }
+numbers InForce.None = record { refusal = 0; place = 0; line = 0; index = noIndex }
+numbers (InForce.Refused r) = record { refusal = r .number; place = r .place; line = r .line; index = noIndex }
