@@ -8,6 +8,7 @@ use Rattle.lexer.specs.Kinds as Kind
 use Rattle.numeral.specs.declared.Value.{Value}
 use Rattle.numeral.specs.declared.Value.the-variants.{Scaled, Not}
 use Rattle.numeral.specs.Numeral.{numeralOf}
+use Rattle.numeral.specs.Numbers.{valueNumbers}
 use Rattle.numeral.specs.Stored.{storedOf}
 use Rattle.word.specs.Words.{same, wordOf, word, isKey}
 use Rattle.word.specs.Codes.{codeOf, valuesOf}
@@ -91,7 +92,7 @@ expect-ident l a = then (get-name a) (λ t b. cond (same (t .bytes) l) (ok t b) 
 -- a number as stored: no number 4, no numeral 9
 abbrev pub valued : {A M : Type 0} → Value → Ahead A M → Answer A M ℕ
 valued (Scaled negative m) a = ok (storedOf negative m) a
-valued Not a = complain 9 a
+valued Not a = complain (valueNumbers Not .refusal) a
 
 unfoldable pub parse-number : {A M : Type 0} → Ahead A M → Answer A M ℕ
 parse-number a = then (expect Kind.number a) (λ t b. valued (numeralOf (t .bytes)) b)

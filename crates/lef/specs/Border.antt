@@ -8,6 +8,7 @@ use lib.ListN.{length}
 use Rattle.refusal.specs.declared.Refusal.{Refusal}
 use Rattle.file.specs.declared.Found.{Found}
 use Rattle.file.specs.File.{recordAt}
+use Rattle.lexer.specs.Numbers.{Numbers as Tokens}
 use Rattle.lexer.specs.Answer as T
 use Rattle.lexer.specs.Answer.{firstToken}
 use Rattle.lookup.specs.Force as F
@@ -39,7 +40,7 @@ abbrev pub writeBuffer : List ℕ → List ℕ → List ℕ → List ℕ
 writeBuffer text records out = W.filled text records out
 
 -- `lef_token`: refusal, place, line, kind, start and stop
-abbrev pub tokenNumbers : List ℕ → ℕ → T.Numbers
+abbrev pub tokenNumbers : List ℕ → ℕ → Tokens
 tokenNumbers text place = T.numbers text (firstToken text place)
 
 -- `lef_in_force`: refusal, place, line and index; no index is `noIndex`, the largest number

@@ -8,7 +8,8 @@ use Rattle.text.specs.Text.{bytes}
 use Rattle.lexer.specs.Bytes.{classOf}
 use Rattle.lexer.specs.Run.{run}
 use Rattle.lexer.specs.Kinds.{name, number, semicolon, stringLiteral}
-use Rattle.lexer.specs.Lex.{answers, from, head, token}
+use Rattle.lexer.specs.Lex.{answers, from, head, lexFrom, token}
+use Rattle.lexer.specs.Numbers.{lexNumbers}
 use Rattle.lexer.specs.Screen.{screened}
 use Rattle.lexer.specs.Answer.{firstToken, numbers}
 
@@ -63,3 +64,12 @@ first-found = refl
 beyond : numbers (bytes "a b") (firstToken (bytes "a b") 9) ≡ record { refusal = 0; place = 0; line = 0; kind = 0; start = 3; stop = 3 }
 unfolding firstToken screened from answers classOf run head
 beyond = refl
+
+-- what is found next has its line
+next-found : lexNumbers (bytes "\n b") (lexFrom (bytes "\n b") 0 1) ≡ record { refusal = 0; place = 0; line = 2; kind = name; start = 2; stop = 3 }
+unfolding from answers classOf run head
+next-found = refl
+
+next-end : lexNumbers (bytes "\n ") (lexFrom (bytes "\n ") 0 1) ≡ record { refusal = 0; place = 0; line = 2; kind = 0; start = 2; stop = 2 }
+unfolding from answers classOf run head
+next-end = refl

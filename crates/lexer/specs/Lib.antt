@@ -5,5 +5,6 @@ pub mod Lex
 pub mod Places
 pub mod Lines
 pub mod Screen
+pub mod Numbers
 pub mod Answer
 pub mod Examples

@@ -5,6 +5,7 @@ use Rattle.numeral.specs.declared.Value.the-variants.{Scaled, Not}
 use Rattle.numeral.specs.Numeral.{numeralOf}
 use Rattle.numeral.specs.Shortest.{shortest, natural, fraction}
 use Rattle.numeral.specs.Stored.{storedOf, valueOf}
+use Rattle.numeral.specs.Numbers.{valueNumbers}
 use Rattle.text.specs.Text.{bytes}
 
 -- ---- taken
@@ -78,3 +79,10 @@ minus-one = refl
 
 back : valueOf 0xffff_ffff_ffff_ffff ≡ Scaled true 1
 back = refl
+
+-- ---- the numbers of a value
+minus-half : valueNumbers (numeralOf (bytes "-.5")) ≡ record { refusal = 0; negative = 1; millionths = 500000 }
+minus-half = refl
+
+no-numeral : valueNumbers (numeralOf (bytes "1e3")) ≡ record { refusal = 9; negative = 0; millionths = 0 }
+no-numeral = refl

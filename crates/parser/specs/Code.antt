@@ -5,12 +5,12 @@ use mathlib.Core.List.{List, [], map}
 use lib.Dec.{eqb}
 use lib.ListN.{length, take, drop}
 use Rattle.refusal.specs.declared.Refusal.{Refusal}
-use Rattle.refusal.specs.Table.{noToken}
 use Rattle.refusal.specs.Table.{refused as refusal}
 use Rattle.lexer.specs.declared.Token.{Token}
 use Rattle.lexer.specs.declared.Lexed.{Lexed}
 use Rattle.lexer.specs.declared.Lexed.the-variants.{Found, End, Bad}
 use Rattle.lexer.specs.Lex.{from}
+use Rattle.lexer.specs.Numbers.{badByte}
 use Rattle.parser.specs.declared.take.Taken.{Taken}
 use Rattle.parser.specs.declared.take.Taken.the-variants as T
 use Rattle.parser.specs.declared.take.Number.{Number}
@@ -55,7 +55,7 @@ endOf s n = record { kind = end; start = length s; stop = length s; line = n }
 abbrev pub heldNext : List ℕ → Lexed → Taken
 heldNext s (Found t) = T.Next t
 heldNext s (End n) = T.Next (endOf s n)
-heldNext s (Bad i n) = T.Refused (refusal noToken i n)
+heldNext s (Bad i n) = T.Refused (badByte i n)
 
 -- the takers' answers; h is the token that was taken
 abbrev pub asTaken : List ℕ → Token → Taken → Answer ℕ Mark (Tok ℕ Mark)
