@@ -13,6 +13,7 @@ use Rattle.refusal.specs.Table.{refused, done, wrongRecord, lacking}
 use Rattle.record.specs.declared.Record.{Record}
 use Rattle.file.specs.File.{held, recordIn}
 use Rattle.file.proofs.Held.{held-length, front-at}
+use Rattle.file.proofs.Fields.{at-small}
 use Rattle.verdict.specs.Verdict.{blank, verdict}
 use Rattle.verdict.specs.Meaning.{nth}
 use Rattle.verdict.specs.Facts.{Met, Good, Wrong}
@@ -20,7 +21,6 @@ use Rattle.verdict.proofs.Bridge.{verdict-wrong, verdict-lacks, verdict-done}
 use Rattle.checker.specs.declared.windows.Seen.{Seen}
 use Rattle.checker.specs.Windows.{Windowed}
 use Rattle.checker.specs.Covered.{Told, Covered, Fills}
-use Rattle.checker.proofs.Bytes.{at-small}
 use Rattle.checker.proofs.Scanning.{same-at}
 
 -- before the first window

@@ -1,8 +1,5 @@
 // The record file: a record's 36 bytes, and the records of a file by their index.
 ghost use mathlib.Core.Path.{_≡_};
-ghost use Prim.Native.Nat.{_+_, _≤_};
-ghost use lib.ListN.{length};
-ghost use lib.Seq.{sets};
 ghost use Rattle.record.specs.Bytes.{encoded};
 ghost use Rattle.file.specs.File.{hasRoom, recordAt, stored};
 use record::Record;
@@ -38,8 +35,7 @@ pub fn put(r: Record, file: &mut [u8], index: usize) -> bool
     if file.len() / Record::SIZE <= index {
         return false;
     }
-    lay(file, Record::SIZE * index, &bytes(r));
-    true
+    rowfile::put(&bytes(r), file, index)
 }
 
 // The record at the index of the file.
@@ -52,16 +48,4 @@ pub fn read(file: &[u8], index: usize) -> Found
     let base = Record::SIZE * index;
     let stop = base + Record::SIZE;
     Found::At(Record::of_bytes(&file[base..stop]))
-}
-
-// Lays bytes over the file at a place.
-fn lay(file: &mut [u8], place: usize, bytes: &[u8])
-    requires { ⌜ place + length (now bytes) ≤ length (now file) ⌝ }
-    ensures { λ r. ⌜ now (file .exit) ≡ sets (now (file .entry)) place (now (bytes .entry)) ⌝ }
-{
-    let mut i = 0;
-    while i < bytes.len() {
-        file[place + i] = bytes[i];
-        i += 1;
-    }
 }

@@ -1,39 +1,30 @@
 -- A kind or a code that is no byte: no record that bytes hold has such a kind, so none is in force, as for a kind of which all count;
 -- and such a code is of no option, as 0.
-use Prim.Native.Nat.{ℕ, zero, suc, _/_, _<_}
+use Prim.Native.Nat.{ℕ, _<_}
 use mathlib.Core.Path.{_≡_, refl, ap, _∙_}
 use mathlib.Core.Bool.{Bool, true, false, cond}
 use mathlib.Core.List.{List}
-use mathlib.Core.Option.{some, Option·none-ne-some, Option·some-injective}
+use mathlib.Core.Option.{some}
 use native.Mathlib.Omega.{arith}
 use borrow.Author.Tests.{ne-eqb, leb-false}
 use lib.Dec.{leb}
-use lib.ListN.{length, take, drop, getD, getElem?}
+use lib.ListN.{length, getElem?}
 use Rattle.little.specs.Little.{Bytes}
-use Rattle.little.proofs.Laws.{take-bytes, drop-bytes}
 use Rattle.refusal.specs.Table.{refused, notWhole}
 use Rattle.record.specs.declared.Record.{Record}
-use Rattle.record.specs.Bytes.{decoded}
 use Rattle.record.specs.Kinds.{SITE}
-use Rattle.file.specs.File.{front, held, whole}
+use Rattle.file.specs.File.{held, whole}
+use Rattle.file.proofs.Fields.{kind-small}
+use Rattle.file.proofs.Held.{held-is}
 use Rattle.lookup.specs.declared.InForce.{InForce}
 use Rattle.lookup.specs.Force.{allCount, sameOption, asked, latest, told, inForce}
 use Rattle.lookup.proofs.Force.{no-latest}
-
--- the kind of a record that bytes hold is a byte
-small : (n : ℕ) (file : List ℕ) → Bytes file → (k : ℕ) (s : Record) → getElem? (front n file) k ≡ some s → s .kind < 256
-unfolding front decoded
-small zero file b k s e = absurd (Option·none-ne-some s e)
-small (suc n) file b zero s e =
-    let kind : getD (take 36 file) 0 0 ≡ s .kind = ap (λ r. r .kind) (Option·some-injective (decoded (take 36 file)) s e) in
-    omega (arith, kind, take-bytes 36 file b 0)
-small (suc n) file b (suc k) s e = small n (drop 36 file) (drop-bytes 36 file b) k s e
 
 not-asked : (file : List ℕ) → Bytes file → (owner kind code : ℕ) → 255 < kind → (k : ℕ) (s : Record) → getElem? (held file) k ≡ some s
     → asked owner kind code s ≡ false
 unfolding asked
 not-asked file b owner kind code h k s e =
-    let l = small (length file / 36) file b k s e in
+    let l : s .kind < 256 = rw (held-is file k s e) at (kind-small file k b) in
     rw (ne-eqb (s .kind) kind (λ z. omega arith))
 
 same : (code d : ℕ) → 255 < code → sameOption code d ≡ false

@@ -5,7 +5,7 @@ use mathlib.Core.List.{List, [], _∷_}
 use native.Mathlib.Nat.{pow-zero, pow-suc, div-lt-iff-lt-mul}
 use native.Mathlib.Omega.{arith}
 use lib.ListN.{length, take, drop, getD}
-use lib.Seq.{getD-drop}
+use lib.Seq.{take-nil, getD-drop}
 use Rattle.little.specs.Little.{little, number, Bytes}
 
 -- a number that fits n bytes is the number of its n low bytes
@@ -25,6 +25,23 @@ little-number (b ∷ l) h =
     let m : (b + 256 * number l) % 256 ≡ b = omega arith in
     let d : (b + 256 * number l) / 256 ≡ number l = omega arith in
     rw (m, d, little-number l (λ i. h (suc i)))
+
+-- the number of a stretch: its first byte, and the rest; past the end all are nought
+pub stretch : (k q : ℕ) (l : List ℕ) → number (take (suc k) (drop q l)) ≡ getD l q 0 + 256 * number (take k (drop (suc q) l))
+unfolding number
+stretch k zero [] = rw take-nil
+stretch k (suc q) [] = rw take-nil
+stretch k zero (b ∷ l) = refl
+stretch k (suc q) (b ∷ l) = stretch k q l
+
+-- a number of n bytes fits them
+pub number-small : (n : ℕ) (l : List ℕ) → Bytes l → number (take n l) < 256 ^ n
+unfolding number
+number-small zero l h = rw (pow-zero 256) (omega arith)
+number-small (suc n) [] h = rw (pow-suc 256 n) (omega (arith, number-small n [] h))
+number-small (suc n) (b ∷ l) h =
+    let first : b < 256 = h 0 in
+    rw (pow-suc 256 n) (omega (arith, number-small n l (λ i. h (suc i))))
 
 -- the number of one byte is that byte, and past the end nought
 pub one : (o : ℕ) (l : List ℕ) → number (take 1 (drop o l)) ≡ getD l o 0

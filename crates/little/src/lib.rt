@@ -1,7 +1,7 @@
 // Numbers as bytes, the lowest byte first: read out of bytes, and laid over bytes.
 ghost use mathlib.Core.Path.{_≡_};
-ghost use Prim.Native.Nat.{_+_, _<_, _^_, min};
-ghost use lib.ListN.{take, drop, getD, set};
+ghost use Prim.Native.Nat.{_+_, _≤_, _<_, _^_, min};
+ghost use lib.ListN.{length, take, drop, getD, set};
 ghost use lib.Seq.{sets};
 ghost use Rattle.little.specs.Little.{little, number};
 
@@ -17,6 +17,42 @@ pub fn number(bytes: &[u8], place: usize, n: usize) -> u64
         sum = 256 * sum + byte(bytes, place, i);
     }
     sum
+}
+
+// The number in the four bytes at a place; a byte past the end counts as nought.
+pub fn word32(bytes: &[u8], place: usize) -> usize
+    ensures eq { λ r. ⌜ r ≡ number (take 4 (drop place (now (bytes .entry)))) ⌝ }
+    ensures small { λ r. ⌜ r < 4294967296 ⌝ }
+{
+    if 4 <= bytes.len() {
+        if place <= bytes.len() - 4 {
+            return four(bytes, place) as usize;
+        }
+    }
+    number(bytes, place, 4) as usize
+}
+
+// The number in the eight bytes at a place; a byte past the end counts as nought.
+pub fn word64(bytes: &[u8], place: usize) -> u64
+    ensures { λ r. ⌜ r ≡ number (take 8 (drop place (now (bytes .entry)))) ⌝ }
+{
+    if 8 <= bytes.len() {
+        if place <= bytes.len() - 8 {
+            return four(bytes, place) + 4294967296 * four(bytes, place + 4);
+        }
+    }
+    number(bytes, place, 8)
+}
+
+// The number in four bytes that are there, without a loop.
+fn four(bytes: &[u8], place: usize) -> u64
+    requires { ⌜ place + 4 ≤ length (now bytes) ⌝ }
+    ensures { λ r. ⌜ (r ≡ number (take 4 (drop place (now (bytes .entry))))) × (r < 4294967296) ⌝ }
+{
+    wide(bytes[place])
+        + 256 * wide(bytes[place + 1])
+        + 65536 * wide(bytes[place + 2])
+        + 16777216 * wide(bytes[place + 3])
 }
 
 // Lays the n low bytes of a number over the bytes at a place; what would stand past the end is left out.

@@ -10,7 +10,7 @@ use lib.ListN.{length, getElem?}
 use Rattle.record.specs.declared.Record.{Record}
 use Rattle.file.specs.File.{held, recordIn}
 use Rattle.lookup.specs.Force.{latest}
-use Rattle.lookup.proofs.Held.{held-here, held-below, held-is}
+use Rattle.file.proofs.Held.{held-here, held-below, held-is}
 use Rattle.lookup.proofs.Force.{is-latest, no-latest}
 
 -- of the first i records those that pass stand below `above`, and if that is not nought the best is the first that stands highest

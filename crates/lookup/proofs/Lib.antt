@@ -1,5 +1,3 @@
-mod Fields
-mod Held
 pub mod First
 pub mod Force
 mod Best

@@ -11,7 +11,7 @@ use Rattle.record.specs.declared.Record.{Record}
 use Rattle.file.specs.File.{held, recordIn}
 use Rattle.lookup.specs.First.{first}
 use Rattle.lookup.specs.Chain.{isAt, atIndex, ownerOf}
-use Rattle.lookup.proofs.Held.{held-here, held-past, held-below, held-is}
+use Rattle.file.proofs.Held.{held-here, held-past, held-below, held-is}
 use Rattle.lookup.proofs.First.{is-first, no-first}
 
 module _ (file : List ℕ) (p : Record → Bool) where

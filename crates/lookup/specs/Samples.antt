@@ -6,10 +6,11 @@ use lib.ListN.{replicate}
 use Rattle.text.specs.Text.{bytes}
 use Rattle.refusal.specs.Table.{refused, notWhole}
 use Rattle.little.specs.Little.{little, number}
+use Rattle.rowfile.specs.Rows.{front, joined}
 use Rattle.record.specs.Bytes.{encoded, decoded}
 use Rattle.record.specs.Made.{bare, coded, named, valued, library}
 use Rattle.record.specs.Kinds.{SITE, MACRO, PIN, PORT, LAYER, LAYER-OPTION, WIDTH, EXCEPTPGNET, SPACING, DESIGNRULEWIDTH}
-use Rattle.file.specs.File.{front, encodedAll, recordAt}
+use Rattle.file.specs.File.{encodedAll, recordAt}
 use Rattle.lookup.specs.declared.InForce.{InForce}
 use Rattle.lookup.specs.declared.Chain.{Chain}
 use Rattle.lookup.specs.First.{first, greatest}
@@ -43,7 +44,7 @@ pub record InForceSamples : Type 0 where
   pub cut-file : inForce (replicate 35 0) library WIDTH 0 ≡ InForce.Refused (refused notWhole 35 0)
 
 pub in-force : InForceSamples
-unfolding inForce latest first greatest asked front encodedAll encoded decoded little number
+unfolding inForce latest first greatest asked front joined encoded decoded little number
 in-force = record {
   first-of-two = refl;
   code-unused = refl;
@@ -72,7 +73,7 @@ pub record NameSamples : Type 0 where
   pub cut-file : nameAt (bytes "SITE s") (sites ++ 0 ∷ []) 0 ≡ bytes "s"
 
 pub names : NameSamples
-unfolding recordAt part encodedAll encoded decoded little number
+unfolding recordAt part joined encoded decoded little number
 names = record { inside = refl; over-the-end = refl; far-outside = refl; past-the-file = refl; cut-file = refl }
 
 -- a layer in a port in a pin in a macro
@@ -95,7 +96,7 @@ pub record OwnersSamples : Type 0 where
   pub cut-file : owners (replicate 37 0) 0 ≡ Chain.Refused (refused notWhole 37 0)
 
 pub chains : OwnersSamples
-unfolding owners ownersOf within first front recordAt encodedAll encoded decoded little number
+unfolding owners ownersOf within first front recordAt joined encoded decoded little number
 chains = record {
   to-the-library = refl;
   of-the-library = refl;

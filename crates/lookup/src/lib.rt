@@ -41,17 +41,9 @@ fn word(file: &[u8], index: usize, offset: usize) -> usize
     requires { ⌜ (index < length (now file) / 36) × (offset + 4 ≤ 36) ⌝ }
     ensures { λ r. ⌜ (r ≡ field offset 4 (bytesAt (now (file .entry)) index)) × (r < 4294967296) ⌝ }
 {
-    let place = Record::SIZE * index + offset;
-    wide(file[place])
-        + 256 * wide(file[place + 1])
-        + 65536 * wide(file[place + 2])
-        + 16777216 * wide(file[place + 3])
-}
-
-fn wide(b: u8) -> usize
-    ensures { λ r. ⌜ (r ≡ b) × (r < 256) ⌝ }
-{
-    b as usize
+    let base = Record::SIZE * index;
+    let stop = base + Record::SIZE;
+    little::word32(&file[base..stop], offset)
 }
 
 // A kind of which all records count.

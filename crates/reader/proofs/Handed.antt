@@ -4,14 +4,17 @@ use mathlib.Core.Path.{_≡_, refl, sym, ap, _∙_}
 use mathlib.Core.List.{List, [], _∷_, _++_, map}
 use native.Mathlib.Omega.{arith}
 use borrow.Author.Tests.{le-leb, lt-leb, lt-ltb, ne-eqb}
-use lib.ListN.{length, set}
+use lib.ListN.{length}
 use lib.Seq.{sets, length-sets}
 use Rattle.refusal.specs.declared.Refusal.{Refusal}
 use Rattle.refusal.specs.Table.{noToken, done, recordRoom}
 use Rattle.refusal.specs.Table.{refused as refusal}
+use Rattle.rowfile.specs.Rows.{joined}
+use Rattle.rowfile.proofs.Stored.{sets-append}
 use Rattle.record.specs.declared.Record.{Record}
 use Rattle.record.specs.Bytes.{encoded}
 use Rattle.file.specs.File.{encodedAll, stored}
+use Rattle.file.proofs.Laws.{stored-sets}
 use Rattle.record.proofs.Laws.{encoded-length}
 use Rattle.lexer.specs.declared.Token.{Token}
 use Rattle.lexer.specs.declared.Lexed.{Lexed}
@@ -40,15 +43,11 @@ use Rattle.reader.proofs.Tally.{few-ahead}
 
 -- THE RECORDS IN THE FILE
 
-sets-append : (xs ys l : List ℕ) (p : ℕ) → sets l p (xs ++ ys) ≡ sets (sets l p xs) (p + length xs) ys
-sets-append [] ys l p = ap (λ q. sets l q ys) (omega arith)
-sets-append (x ∷ xs) ys l p = sets-append xs ys (set l p x) (suc p) ∙ ap (λ q. sets (sets (set l p x) (suc p) xs) q ys) (omega arith)
-
 pub laid-all : (rs : List Record) (n : ℕ) (file : List ℕ) → n + length rs ≤ room file → storedAll n rs file ≡ sets file (36 * n) (encodedAll rs)
-unfolding storedAll encodedAll stored
+unfolding storedAll joined
 laid-all [] n file h = refl
 laid-all (r ∷ rs) n file h =
-    let e : stored r n file ≡ sets file (36 * n) (encoded r) = rw (lt-ltb n (room file) (omega arith)) in
+    let e : stored r n file ≡ sets file (36 * n) (encoded r) = stored-sets r n file (lt-ltb n (room file) (omega arith)) in
     let l : length (sets file (36 * n) (encoded r)) ≡ length file = length-sets file (36 * n) (encoded r) in
     let p : 36 * (n + 1) ≡ 36 * n + length (encoded r) = rw (encoded-length r) (omega arith) in
     ap (storedAll (n + 1) rs) e

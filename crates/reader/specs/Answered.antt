@@ -1,5 +1,5 @@
 -- WHAT `read` ANSWERS for a reading, and what then stands in the record buffer that it was lent.
-use Prim.Native.Nat.{ℕ, _/_}
+use Prim.Native.Nat.{ℕ}
 use mathlib.Core.Bool.{cond}
 use mathlib.Core.List.{List}
 use lib.Dec.{leb}
@@ -7,12 +7,12 @@ use lib.ListN.{length}
 use lib.Seq.{sets}
 use Rattle.refusal.specs.declared.Refusal.{Refusal}
 use Rattle.refusal.specs.Table.{refused, done, recordRoom}
-use Rattle.file.specs.File.{encodedAll}
+use Rattle.file.specs.File.{count, encodedAll}
 use Rattle.grammar.specs.Reading.{Reading, records, refusal-of}
 
 -- the records that a buffer has room for; bytes too few for a record count for nothing
 abbrev pub room : List ℕ → ℕ
-room file = length file / 36
+room file = count file
 
 -- The answer where there is room for n records: 0 with the count of the records, 11 with that count where they do not fit, or the
 -- reading's own refusal.

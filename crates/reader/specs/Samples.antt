@@ -4,6 +4,7 @@ use mathlib.Core.List.{[], _∷_}
 use lib.ListN.{replicate}
 use Rattle.refusal.specs.Table.{refused as refusal}
 use Rattle.little.specs.Little.{little}
+use Rattle.rowfile.specs.Rows.{joined}
 use Rattle.record.specs.Bytes.{encoded}
 use Rattle.record.specs.Made.{made, library}
 use Rattle.file.specs.File.{encodedAll}
@@ -23,5 +24,5 @@ pub record Handed : Type 0 where
   pub kept : filled (replicate 35 9) one ≡ replicate 35 9
 
 pub handed : Handed
-unfolding encoded little encodedAll
+unfolding encoded little joined
 handed = record { told = refl; too-small = refl; laid = refl; kept = refl }

@@ -5,10 +5,11 @@ use mathlib.Core.List.{List, [], _∷_}
 use Rattle.text.specs.Text.{bytes}
 use Rattle.refusal.specs.Table.{refused as refusal}
 use Rattle.little.specs.Little.{little, number}
+use Rattle.rowfile.specs.Rows.{front, joined}
 use Rattle.record.specs.declared.Record.{Record}
 use Rattle.record.specs.Bytes.{encoded, decoded}
 use Rattle.record.specs.Made.{made, library}
-use Rattle.file.specs.File.{front, encodedAll}
+use Rattle.file.specs.File.{encodedAll}
 use Rattle.lexer.specs.Bytes.{classOf}
 use Rattle.lexer.specs.Run.{run}
 use Rattle.lexer.specs.Lex.{answers, from, head}
@@ -42,7 +43,7 @@ pub record Starred : Type 0 where
   pub a-lack : checked (reading site) (encodedAll (r8 ∷ r9 ∷ [])) ≡ refusal 15 20 0
 
 pub starred : Starred
-unfolding little number encoded decoded front encodedAll classOf run answers from head screened keys values words raised upper firstWhere wordOf isKey same-word onOff siteClasses symmetries macroClasses directions uses shapes antennaModels antennaKeys portClasses layerOptions valuesOf placeOf codeOf next expect get-key expect-key expect-keyword expect-ident parse-number parse-enum begins parse-second empty member item items without actFor perform peek-key step turn turns readAhead reading same among first wrong lacks verdict
+unfolding little number encoded decoded front joined classOf run answers from head screened keys values words raised upper firstWhere wordOf isKey same-word onOff siteClasses symmetries macroClasses directions uses shapes antennaModels antennaKeys portClasses layerOptions valuesOf placeOf codeOf next expect get-key expect-key expect-keyword expect-ident parse-number parse-enum begins parse-second empty member item items without actFor perform peek-key step turn turns readAhead reading same among first wrong lacks verdict
 starred = record { on-reading = Read.starred; a-repeat = refl; a-lack = refl }
 
 -- without a star: the order that the rules name, a file that is not whole, and a text that is refused before its file is
@@ -52,5 +53,5 @@ pub record Worked : Type 0 where
   pub text-first : checked (reading (bytes "")) (0 ∷ []) ≡ refusal 4 0 1
 
 pub worked : Worked
-unfolding little number encoded decoded front encodedAll classOf run answers from head screened keys values words raised upper firstWhere wordOf isKey same-word onOff siteClasses symmetries macroClasses directions uses shapes antennaModels antennaKeys portClasses layerOptions valuesOf placeOf codeOf next expect get-key expect-key expect-keyword expect-ident parse-number parse-enum begins parse-second empty member item items without actFor perform peek-key step turn turns readAhead reading same among first wrong lacks verdict
+unfolding little number encoded decoded front joined classOf run answers from head screened keys values words raised upper firstWhere wordOf isKey same-word onOff siteClasses symmetries macroClasses directions uses shapes antennaModels antennaKeys portClasses layerOptions valuesOf placeOf codeOf next expect get-key expect-key expect-keyword expect-ident parse-number parse-enum begins parse-second empty member item items without actFor perform peek-key step turn turns readAhead reading same among first wrong lacks verdict
 worked = record { another-order = refl; not-whole = refl; text-first = refl }

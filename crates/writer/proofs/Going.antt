@@ -7,6 +7,7 @@ use mathlib.Core.List.{List, [], _++_, map, append-nil}
 use lib.ListN.{length}
 use Rattle.refusal.specs.declared.Refusal.{Refusal}
 use Rattle.record.specs.declared.Record.{Record}
+use Rattle.rowfile.specs.Rows.{front as rows-front}
 use Rattle.file.specs.File.{front}
 use Rattle.grammar.specs.Reading.{records, refusal-of}
 use Rattle.reader.specs.declared.state.State.{State}
@@ -32,7 +33,7 @@ pub record So (s : List ℕ) (start o : State) (out : List ℕ) (pen : Pen) (exi
   pub wrote : Wrote s (stateOf s start) (map (bare s) given) out 0 pen exit
 
 pub so-start : (s : List ℕ) (start : State) (out : List ℕ) → So s start start out (record { st = start; at = 0 }) out
-unfolding front
+unfolding rows-front
 so-start s start out = record { given = []; rest = follow-none (readFrom s start); wrote = wrote-none s [] (record { st = start; at = 0 }) out (omega arith) }
 
 module _ (s : List ℕ) (start : State) (rs : List Record) (ready : Ready s start rs)

@@ -1,12 +1,13 @@
 -- A stretch of records is written record by record: the first k of a file, and then the record at the index k.
-use Prim.Native.Nat.{ℕ, zero, suc, _+_, _-_, _*_, _/_, _≤_, _<_}
+use Prim.Native.Nat.{ℕ, suc, _+_, _-_, _*_, _/_, _≤_, _<_}
 use native.Mathlib.Omega.{arith}
-use mathlib.Core.Path.{_≡_, refl, sym, ap, ap₂, subst, _∙_}
+use mathlib.Core.Path.{_≡_, refl, sym, ap, subst, _∙_}
 use mathlib.Core.Bool.{true}
 use mathlib.Core.List.{List, [], _∷_, _++_, map}
-use lib.ListN.{length, take, drop}
-use lib.Seq.{drop-drop}
+use lib.ListN.{length, drop}
 use borrow.Author.Tests.{lt-ltb}
+use Rattle.rowfile.specs.Rows.{front as rows-front}
+use Rattle.rowfile.proofs.Held.{front-append, front-all}
 use Rattle.record.specs.declared.Record.{Record}
 use Rattle.record.specs.Bytes.{decoded}
 use Rattle.file.specs.declared.Found.{Found}
@@ -15,7 +16,7 @@ use Rattle.file.specs.File.{front, recordAt, recordIn}
 use Rattle.grammar.specs.Turns as T
 use Rattle.reader.specs.Open.{framesOf, stateOf}
 use Rattle.reader.specs.Passed.{storedAll}
-use Rattle.verdict.specs.Meaning.{nth}
+use Rattle.verdict.specs.Verdict.{blank}
 use Rattle.checker.specs.Passing.{Fit}
 use Rattle.checker.proofs.Laying.{laid-at}
 use Rattle.render.specs.Plain.{Plain, bare}
@@ -28,42 +29,27 @@ use Rattle.writer.proofs.Writing.{admits-append, admits-first, wrote-th
 
 -- THE RECORDS OF A FILE
 
-front-append : (a b : ℕ) (w : List ℕ) → front (a + b) w ≡ front a w ++ front b (drop (36 * a) w)
-unfolding front
-front-append zero b w = let z : 0 + b ≡ b = omega arith in rw z
-front-append (suc a) b w =
-    let z : suc a + b ≡ suc (a + b) = omega arith in
-    let next : 36 + 36 * a ≡ 36 * suc a = omega arith in
-    rw z (ap (_∷_ (decoded (take 36 w))) (front-append a b (drop 36 w) ∙ ap (λ l. front a (drop 36 w) ++ front b l) (drop-drop (36 * a) 36 w ∙ ap (λ k. drop k w) next)))
-
 pub bared-append : (s : List ℕ) (rs qs : List Record) → map (bare s) (rs ++ qs) ≡ map (bare s) rs ++ map (bare s) qs
 bared-append s [] qs = refl
 bared-append s (r ∷ rs) qs = ap (_∷_ (bare s r)) (bared-append s rs qs)
 
 front-more : (s : List ℕ) (k : ℕ) (w : List ℕ) → map (bare s) (front (k + 1) w) ≡ map (bare s) (front k w) ++ (bare s (recordIn w k) ∷ [])
-unfolding front
-front-more s k w = ap (map (bare s)) (front-append k 1 w) ∙ bared-append s (front k w) (front 1 (drop (36 * k) w))
+unfolding rows-front
+front-more s k w = ap (map (bare s)) (front-append 36 decoded k 1 w) ∙ bared-append s (front k w) (front 1 (drop (36 * k) w))
 
 -- the records after the first k
 front-rest : (s : List ℕ) (k c : ℕ) (w : List ℕ) → k < c
     → (rest : List Plain) × (map (bare s) (front c w) ≡ map (bare s) (front k w) ++ (bare s (recordIn w k) ∷ rest))
-unfolding front
+unfolding rows-front
 front-rest s k c w h =
     let z : k + suc (c - k - 1) ≡ c = omega arith in
     let e : map (bare s) (front (k + suc (c - k - 1)) w) ≡ map (bare s) (front k w) ++ map (bare s) (front (suc (c - k - 1)) (drop (36 * k) w))
-    = ap (map (bare s)) (front-append k (suc (c - k - 1)) w) ∙ bared-append s (front k w) (front (suc (c - k - 1)) (drop (36 * k) w)) in
+    = ap (map (bare s)) (front-append 36 decoded k (suc (c - k - 1)) w) ∙ bared-append s (front k w) (front (suc (c - k - 1)) (drop (36 * k) w)) in
     (map (bare s) (front (c - k - 1) (drop 36 (drop (36 * k) w))), rw z at e)
 
 -- records that a pass has stored from the front on
-front-nth : (rs : List Record) (w : List ℕ) → ((k : ℕ) → k < length rs → recordIn w k ≡ nth rs k) → front (length rs) w ≡ rs
-unfolding front
-front-nth [] w h = refl
-front-nth (r ∷ rs) w h = ap₂ _∷_ (h 0 (omega arith)) (front-nth rs (drop 36 w) (λ k l.
-    let next : 36 + 36 * k ≡ 36 * suc k = omega arith in
-    ap (λ p. decoded (take 36 p)) (drop-drop (36 * k) 36 w ∙ ap (λ n. drop n w) next) ∙ h (suc k) (omega arith)))
-
 pub front-stored : (rs : List Record) (w : List ℕ) (c : ℕ) → length rs ≡ c → c ≤ length w / 36 → Fit rs → front c (storedAll 0 rs w) ≡ rs
-front-stored rs w c n h fit = rw (← n) (front-nth rs (storedAll 0 rs w) (laid-at rs w (omega arith) fit))
+front-stored rs w c n h fit = rw (← n) (front-all 36 decoded blank rs (storedAll 0 rs w) (laid-at rs w (omega arith) fit))
 
 -- WHAT STANDS AT AN INDEX
 
@@ -82,7 +68,7 @@ module _ (w : List ℕ) (k : ℕ) (h : k < length w / 36) (x : Found) (e : x ≡
 
 module _ (s : List ℕ) (w : List ℕ) where
   pub wrote-none : (p : Pen) (out : List ℕ) → p .at ≤ greatest → Wrote s (stateOf s (p .st)) (map (bare s) (front 0 w)) out (p .at) p out
-  unfolding front piecesOf afterAll
+  unfolding rows-front piecesOf afterAll
   wrote-none p out h = record { put = nothing-put h; state = refl }
 
   module _ (t : T.State ℕ) (k : ℕ) (out : List ℕ) (at : ℕ) (p : Pen) (mid : List ℕ) (a : Wrote s t (map (bare s) (front k w)) out at p mid)

@@ -1,7 +1,7 @@
 -- `lookup::byte` meets its contract: the byte stands in the file as far from the record's first as in the record.
 use mathlib.Core.Path.{sym}
 use borrow.Author.Needs.{needs}
-use Rattle.lookup.proofs.Fields.{byte-of}
+use Rattle.file.proofs.Fields.{byte-of}
 use Rattle.lookup.proofs.byte.Statement.{statement}
 use Rattle.lookup.proofs.byte.Tie as tie
 

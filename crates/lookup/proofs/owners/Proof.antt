@@ -5,9 +5,9 @@ use borrow.Author.Tests.{eq-eqb, ne-eqb, lt-ltb, le-ltb}
 use native.Mathlib.Nat.{zero-add}
 use native.Mathlib.Omega.{arith}
 use Rattle.file.specs.File.{recordAt}
+use Rattle.file.proofs.Fields.{at-small}
 use Rattle.lookup.specs.declared.Chain.{Chain}
 use Rattle.lookup.specs.Chain.{owners}
-use Rattle.lookup.proofs.Fields.{at-small}
 use Rattle.lookup.proofs.owners.Statement.{statement}
 use Rattle.lookup.proofs.owners.Tie as tie
 

@@ -1,4 +1,4 @@
--- `file::lay` meets its contract: what is laid so far, and the rest of the bytes laid on from there, come to the whole.
+-- `rowfile::lay` meets its contract: what is laid so far, and the rest of the bytes laid on from there, come to the whole.
 use Prim.Native.Nat.{suc, _+_, _-_, _≤_, _<_}
 use mathlib.Core.Path.{_≡_, refl}
 use borrow.Author.Needs.{needs}
@@ -7,8 +7,8 @@ use native.Mathlib.Numerals.{add-one}
 use native.Mathlib.Omega.{arith}
 use lib.ListN.{length, drop, length-set, drop-of-length-le}
 use lib.Seq.{sets, drop-cons}
-use Rattle.file.proofs.lay.Statement.{statement}
-use Rattle.file.proofs.lay.Tie as tie
+use Rattle.rowfile.proofs.lay.Statement.{statement}
+use Rattle.rowfile.proofs.lay.Tie as tie
 
 abbrev Inv-loop : tie.InvT-loop
 Inv-loop file₀ place bytes i₀ file i =

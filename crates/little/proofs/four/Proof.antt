@@ -1,15 +1,15 @@
--- `four` meets its contract: the number of four bytes is their sum, each by its weight.
+-- `little::four` meets its contract: the number of four bytes is their sum, each by its weight.
 use borrow.Author.Needs.{needs}
 use denote.Ref.{now}
 use native.Mathlib.Omega.{arith}
-use Rattle.checker.proofs.Bytes.{four-bytes}
-use Rattle.checker.proofs.held.four.Statement.{statement}
-use Rattle.checker.proofs.held.four.Tie as tie
+use Rattle.little.proofs.Steps.{four-bytes}
+use Rattle.little.proofs.four.Statement.{statement}
+use Rattle.little.proofs.four.Tie as tie
 
 returns : tie.Need-returns
 returns c =
     let a = c .before .before .before .before .before .before .before .before .before .args in
-    omega (arith, four-bytes (now (a .l)) (a .o))
+    omega (arith, four-bytes (now (a .bytes)) (a .place))
 
 pub four-spec : {M : Type 1} → statement M
 four-spec =
