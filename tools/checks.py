@@ -1,62 +1,48 @@
 #!/usr/bin/env python3
 """checks.py: writes the checks that crates/checks replays (stdin) and the answers that it has to print (stdout). No answer comes from
-this repository's code: the readings are those of tools/readings, which the original gave, or are plain from the rules (a long text of one
-statement many times over); records are packed by Python's struct; and 13, 14 and 15 are told here by the rules' own words. Run at the
-repository's root."""
-import itertools, random, struct
+the library: the readings are those of tools/readings, which the original gave, or are plain from the rules (a long text of one
+statement many times over); 13, 14 and 15 are told by the model of the rules. checks.py --check: are the stored lines those made here,
+and does the model, which reads the texts itself, confirm the stored answers?"""
+import itertools
+import random
+import sys
+
+sys.dont_write_bytecode = True
+import answers
+import form
+import model
 
 rng = random.Random(36)
 asked, wanted = [], []
-LIBRARY = 4294967295
 
 
-def packed(r):
-    kind, code, at, owner, name, length, x, y = r.split(" ")
-    o = LIBRARY if owner == "-" else int(owner)
-    return struct.pack("<BBHIIIIqq", int(kind), int(code), 0, int(at), o, int(name), int(length), int(x), int(y))
+def packed(printed):
+    return model.pack([model.parsed(printed)])
 
 
-def place_of(record):
-    return struct.unpack_from("<I", record, 4)[0]
-
-
-# the rules: 13, 14, 15, or 0
 def answer(reading, file):
-    if isinstance(reading, str):
-        return reading
-    if len(file) % 36:
-        return "13 %d 0 " % len(file)
-    held = [file[i : i + 36] for i in range(0, len(file), 36)]
-    known, seen = set(reading), set()
-    for i, r in enumerate(held):
-        if r not in known or r in seen:
-            return "14 %d 0 " % i
-        seen.add(r)
-    for r in reading:
-        if r not in seen:
-            return "15 %d 0 " % place_of(r)
-    return "0 0 0 "
+    """The reading's refusal, or what is told of the file."""
+    return reading if isinstance(reading, str) else answers.numbers(model.agreement(reading, file))
 
 
 def ask(text, reading, file):
     assert len(text) <= 4096 and len(file) <= 4096
-    asked.append("c" + text.hex() + " " + file.hex())
+    asked.append(form.line("c", form.plain(text), file.hex()))
     wanted.append(answer(reading, file))
 
 
 readings = []
-for line in open("tools/readings"):
-    t, said = line.rstrip("\n").split(" ", 1)
+for text, said in form.readings():
     if said.startswith("refusal "):
         reading = said[8:] + " "
     else:
         reading = [packed(r) for r in said.split(";")] if said else []
-    readings.append((bytes.fromhex(t), reading))
+    readings.append((text, reading))
 
 # ---- every reading: its own file, and files near to it
 for text, reading in readings:
     if isinstance(reading, str):
-        ask(text, reading, bytes(rng.choice([0, 1, 36, 37])))
+        ask(text, reading, bytes(rng.choice([0, 1, model.SIZE, model.SIZE + 1])))
         continue
     rs, own = reading, b"".join(reading)
     near = [rs[::-1], rs[1:], rs[:-1], rs + rs[:1], rs[:1] + rs, rs[1:] + rs[-1:], rng.sample(rs, len(rs))]
@@ -77,7 +63,7 @@ for order in (rs, [rs[2], rs[0], rs[1]]):
     file = b"".join(order)
     for i in range(len(file)):
         ask(site, rs, file[:i] + bytes([file[i] ^ 1 << rng.randrange(8)]) + file[i + 1 :])
-for n in (1, 35, 36, 37, 71, 72, 73, 107, 108):
+for n in [1] + [i * model.SIZE + j for i in (1, 2, 3) for j in (-1, 0, 1)][:-1]:
     ask(site, rs, b"".join(rs)[:n])
 # two of one place, one in place of the other
 other = bytearray(rs[1])
@@ -87,7 +73,7 @@ for order in itertools.permutations([rs[0], rs[1], rs[2], bytes(other)]):
     ask(site, rs, b"".join(order[:3]))
 
 # ---- no records; and texts that are refused before anything of the file is looked at
-for file in (b"", b"\0", bytes(36), bytes(72), rs[0], rs[0][:35]):
+for file in (b"", b"\0", bytes(model.SIZE), bytes(2 * model.SIZE), rs[0], rs[0][:-1]):
     ask(b"END LIBRARY", [], file)
     ask(b"", "4 0 1 ", file)
     ask(b"END LIBRARY @", "3 12 1 ", file)
@@ -96,23 +82,25 @@ for file in (b"", b"\0", bytes(36), bytes(72), rs[0], rs[0][:35]):
 
 
 # ---- long texts: n statements of 12 bytes each, so that the windows' edges are passed
+LONGEST = 40001
+STATEMENTS = [model.pack([model.record(model.Kind.VERSION, 12 * k, model.LIBRARY, x=5 * model.MILLION)]) for k in range(LONGEST + 1)]
+
+
 def long(n, held, step, odd, put):
-    record = lambda k: packed("1 0 %d - 0 0 5000000 0" % (12 * k))
-    reading = [record(k) for k in range(n)]
-    file = [record(put if i == odd else i * step % n) for i in range(held)]
-    asked.append("m" + b"".join(v.to_bytes(3, "little") for v in (n, held, step, odd, put)).hex())
-    wanted.append(answer(reading, b"".join(file)))
+    file = [STATEMENTS[put if i == odd else i * step % n] for i in range(held)]
+    asked.append(form.line("m", b"".join(v.to_bytes(3, "little") for v in (n, held, step, odd, put)).hex()))
+    wanted.append(answer(STATEMENTS[:n], b"".join(file)))
 
 
 never = (1 << 24) - 1
-for n in (1, 2, 63, 64, 65, 128, 16383, 16384, 16385, 32768, 40001):
+for n in (1, 2, 63, 64, 65, 128, 16383, 16384, 16385, 32768, LONGEST):
     long(n, n, 1, never, 0)
     long(n, n, n - 1, never, 0)
     long(n, n - 1, 1, never, 0)
     long(n, n + 1, 1, n, n)
     long(n, n + 1, 1, n, n // 2)
     long(n, 0, 1, never, 0)
-n = 40001
+n = LONGEST
 for step in (3, 20000, 39999):
     long(n, n, step, never, 0)
     long(n, n - 1, step, never, 0)
@@ -120,6 +108,6 @@ for step in (3, 20000, 39999):
         for put in (0, 16383, 16384, 32768, n):
             long(n, n, step, odd, put)
 
-open("crates/checks/stdin", "w").write("\n".join(asked) + "\n")
-open("crates/checks/stdout", "w").write("\n".join(wanted) + "\n")
-print(len(asked), "checks,", len("\n".join(asked)) + 1, "bytes")
+if sys.argv[1:] == ["--check"]:
+    sys.exit(not answers.checked("checks", asked))
+form.store("checks", asked, wanted)

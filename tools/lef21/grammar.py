@@ -1,13 +1,19 @@
 """Texts from the grammar, by a random number generator: every statement of the rules, every value word, numerals of all
 forms, names of all sorts, blocks in any order, attributes repeated. A text is a list of tokens; `laid` puts blanks between."""
 
-SECOND = {"COVER": ["", "BUMP"], "RING": [""], "BLOCK": ["", "BLACKBOX", "SOFT"],
-          "PAD": ["", "INPUT", "OUTPUT", "INOUT", "POWER", "SPACER", "AREAIO"],
-          "CORE": ["", "FEEDTHRU", "TIEHIGH", "TIELOW", "SPACER", "ANTENNACELL", "WELLTAP"],
-          "ENDCAP": ["PRE", "POST", "TOPLEFT", "TOPRIGHT", "BOTTOMLEFT", "BOTTOMRIGHT"]}
-ANTENNAS = """ANTENNADIFFAREA ANTENNAGATEAREA ANTENNAPARTIALMETALAREA ANTENNAPARTIALMETALSIDEAREA ANTENNAPARTIALCUTAREA
- ANTENNAPARTIALDIFFAREA ANTENNAMAXAREACAR ANTENNAMAXSIDEAREACAR ANTENNAMAXCUTCAR""".split()
-MICRONS = "100 200 400 800 1000 2000 4000 8000 10000 20000".split()
+import os, sys
+
+sys.path.insert(0, os.path.join(os.path.dirname(os.path.abspath(__file__)), ".."))
+import model
+from model import CODES
+from model import Kind as K
+
+# The classes of a macro, each with the words that may follow, and none where none may.
+SECOND = {}
+for value in CODES[K.MACRO_CLASS]:
+    first, _, second = value.partition(" ")
+    SECOND.setdefault(first, []).append(second)
+MICRONS = [model.written(x) for x in model.MICRONS]
 NAMES = """a A b m1 M1 met1 VDD vss clk s p x0 END LAYER PIN MACRO LIBRARY End ORIGIN N R90 OXIDE1 a; x;y a#b a"b" q" a<3> b[0]
  u/v c_d e-1 f.5 g@ h(2) i%j k\\l z!""".split()
 EDGES = """0 -0 0.0 -0.000 1 -1 00 007 007.50 10000000 -10000000 10000000.000000 9999999.999999 -9999999.999999 0.000001
@@ -29,6 +35,9 @@ class Grammar:
         w = self.pick(values)
         n = self.rng.random()
         return w if n < 0.7 else w.lower() if n < 0.85 else w.title() if n < 0.93 else "".join(self.pick((c, c.lower())) for c in w)
+
+    def value(self, kind):
+        return self.word(*CODES[kind])
 
     def name(self):
         return self.pick(NAMES)
@@ -59,13 +68,13 @@ class Grammar:
         return self.statement(self.word("VERSION"), x)
 
     def old(self):
-        return self.version() + self.statement(self.word("NAMESCASESENSITIVE"), self.word("ON", "OFF"))
+        return self.version() + self.statement(self.word("NAMESCASESENSITIVE"), self.value(K.NAMESCASESENSITIVE))
 
     def string(self, length):
         return '"' + "".join(self.pick("[]<>/|.aZ0;# \n\t{}") for _ in range(length)) + '"'
 
     def flag(self):
-        return self.statement(self.word("NOWIREEXTENSIONATPIN"), self.word("ON", "OFF"))
+        return self.statement(self.word("NOWIREEXTENSIONATPIN"), self.value(K.NOWIREEXTENSIONATPIN))
 
     def bus(self):
         return self.statement(self.word("BUSBITCHARS"), self.string(2))
@@ -81,14 +90,14 @@ class Grammar:
         return self.statement(self.word("DATABASE"), self.word("MICRONS"), x)
 
     def symmetry(self):
-        return self.statement(self.word("SYMMETRY"), [self.word("X", "Y", "R90") for _ in range(self.rng.randrange(4))])
+        return self.statement(self.word("SYMMETRY"), [self.value(K.SYMMETRY_WORD) for _ in range(self.rng.randrange(4))])
 
     def size(self):
         return self.statement(self.word("SIZE"), self.number(), self.word("BY"), self.number())
 
     def site(self):
         name = self.name()
-        need = [lambda: self.statement(self.word("CLASS"), self.word("PAD", "CORE")), self.size]
+        need = [lambda: self.statement(self.word("CLASS"), self.value(K.SITE_CLASS)), self.size]
         self.rng.shuffle(need)
         more = self.some(1, self.symmetry, *need)
         return [self.word("SITE"), name] + need[0]() + more + need[1]() + self.some(1, self.symmetry, *need) + self.end(name)
@@ -122,22 +131,22 @@ class Grammar:
         return self.statement(self.word("DIRECTION"), w, self.pick(([], [self.word("TRISTATE")])) if w.upper() == "OUTPUT" else [])
 
     def use(self):
-        return self.statement(self.word("USE"), self.word("SIGNAL", "ANALOG", "POWER", "GROUND", "CLOCK"))
+        return self.statement(self.word("USE"), self.value(K.USE))
 
     def shape(self):
-        return self.statement(self.word("SHAPE"), self.word("ABUTMENT", "RING", "FEEDTHRU"))
+        return self.statement(self.word("SHAPE"), self.value(K.SHAPE))
 
     def model(self):
-        return [self.word("ANTENNAMODEL"), self.word("OXIDE1", "OXIDE2", "OXIDE3", "OXIDE4")]
+        return [self.word("ANTENNAMODEL"), self.value(K.ANTENNAMODEL)]
 
     def antenna(self):
-        return self.statement(self.word(*ANTENNAS), self.number(), self.pick(([], [self.word("LAYER"), self.name()])))
+        return self.statement(self.value(K.ANTENNA), self.number(), self.pick(([], [self.word("LAYER"), self.name()])))
 
     def port(self):
         return [self.word("PORT")] + self.some(3, self.port_class, self.layer, self.layer) + self.end()
 
     def port_class(self):
-        return self.statement(self.word("CLASS"), self.word("NONE", "CORE", "BUMP"))
+        return self.statement(self.word("CLASS"), self.value(K.PORT_CLASS))
 
     def obs(self):
         return [self.word("OBS")] + self.some(3, self.layer) + self.end()

@@ -1,53 +1,67 @@
 """Our list of records in the form that src/kept.rs defines, so that it can be held beside what the original keeps."""
-import re
+import os, re, sys
 
-COUNTING = {8, 11, 13, 18, 23, 24, 27, 30, 31, 32, 33, 34}
-KEYS = """VERSION BUSBITCHARS DIVIDERCHAR NAMESCASESENSITIVE NOWIREEXTENSIONATPIN UNITS DATABASE SITE CLASS SYMMETRY (X|Y|R90) SIZE
- MACRO CLASS SITE FOREIGN ORIGIN PIN DIRECTION USE SHAPE ANTENNAMODEL ANTENNA[A-Z]+ PORT CLASS OBS LAYER
- (EXCEPTPGNET|SPACING|DESIGNRULEWIDTH) WIDTH RECT POLYGON PATH [-0-9] VIA""".split()
-FIRST = [None] + [re.compile(k.encode() + (b"" if k[0] == "[" else rb"(?!\S)"), re.I) for k in KEYS]
+sys.path.insert(0, os.path.join(os.path.dirname(os.path.abspath(__file__)), ".."))
+import model
+from model import CODES, KEYS, LIBRARY
+from model import Kind as K
+
+
+def first_word(kind):
+    """What a statement of a kind begins with."""
+    words = [KEYS[kind]] if KEYS[kind] else CODES.get(kind)
+    return re.compile(rb"(%s)(?!\S)" % "|".join(words).encode() if words else rb"[-0-9]", re.I)
+
+
+FIRST = [None] + [first_word(kind) for kind in range(1, len(KEYS))]
 
 
 def parsed(line):
-    """The records of one line: tuples of kind, code, at, owner (None at the library level), name start, name length, x, y."""
-    return [tuple(None if f == "-" else int(f) for f in r.split()) for r in line.split(";") if r.strip()]
+    """The records of one line."""
+    return [model.parsed(r) for r in line.split(";") if r.strip()]
 
 
 def complaint(text, records):
     """What is wrong with the places of a reading's records, which the original does not tell: `at` rises and is where the
     statement's first token stands, the owner stands before, the name lies between this statement's start and the next's."""
-    seen, last = {None}, -1
-    for i, (kind, code, at, owner, start, length, x, y) in enumerate(records):
-        until = records[i + 1][2] if i + 1 < len(records) else len(text)
-        if at <= last or owner not in seen:
-            return "record %d: at %d after %d, owner %s" % (i, at, last, owner)
-        if not FIRST[kind].match(text, at):
-            return "record %d: kind %d at %d" % (i, kind, at)
-        if (start, length) != (0, 0) and not at < start < start + length <= until:
-            return "record %d: name %d %d" % (i, start, length)
-        seen.add(at)
-        last = at
+    seen, last = {LIBRARY}, -1
+    for i, r in enumerate(records):
+        until = records[i + 1].at if i + 1 < len(records) else len(text)
+        if r.at <= last or r.owner not in seen:
+            return "record %d: at %d after %d, owner %s" % (i, r.at, last, r.owner)
+        if not FIRST[r.kind].match(text, r.at):
+            return "record %d: kind %d at %d" % (i, r.kind, r.at)
+        if (r.start, r.length) != (0, 0) and not r.at < r.start < r.start + r.length <= until:
+            return "record %d: name %d %d" % (i, r.start, r.length)
+        seen.add(r.at)
+        last = r.at
     return None
 
 
-def named(text, start, length):
-    return "".join(chr(b) if chr(b).isalnum() or b == 95 else "%%%02X" % b for b in text[start : start + length]) or "-"
+def named(text, r):
+    return "".join(chr(b) if chr(b).isalnum() or b == 95 else "%%%02X" % b for b in model.named(text, r)) or "-"
+
+
+def group(r):
+    """What is kept together, in the order of its first record: shapes, and of a layer's options the two that are one thing."""
+    if r.kind in (K.RECT, K.POLYGON, K.PATH):
+        return K.RECT, 0
+    return (r.kind, int(r.code > 1)) if r.kind == K.LAYER_OPTION else (r.kind, 0)
 
 
 def kept(text, records):
     owned = {}
     for r in records:
-        group = (30, 0) if 30 <= r[0] <= 32 else (28, int(r[1] > 1)) if r[0] == 28 else (r[0], 0)
-        things = owned.setdefault(r[3], {}).setdefault(group, [])
-        if r[0] not in COUNTING:
+        things = owned.setdefault(r.owner, {}).setdefault(group(r), [])
+        if r.kind not in model.counting():
             things.clear()
         things.append(r)
 
     def parts(owner):
         groups = owned.get(owner, {})
-        return "".join(thing(r) for g in sorted(groups) for r in groups[g] if r[0] != 26 or r[2] in owned)
+        return "".join(thing(r) for g in sorted(groups) for r in groups[g] if r.kind != K.OBS or r.at in owned)
 
     def thing(r):
-        return "(%d %d %s %d %d%s)" % (r[0], r[1], named(text, r[4], r[5]), r[6], r[7], parts(r[2]))
+        return "(%d %d %s %d %d%s)" % (r.kind, r.code, named(text, r), r.x, r.y, parts(r.at))
 
-    return parts(None)
+    return parts(LIBRARY)

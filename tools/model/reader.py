@@ -1,0 +1,120 @@
+"""Reading, as `parse_lib` of the original: the library level, UNITS and SITE; macros are read in macro.py."""
+from .lexer import NAME, STRING
+from .macro import MacroReader
+from .record import LIBRARY, SIZE, Kind, pack
+from .rules import NOW, Answer, Refused
+from .words import MICRONS, OTHER_UNITS, VERSION_5_4, VERSION_5_8, VERSIONS, upper
+
+
+class Reader(MacroReader):
+    def __init__(self, text, rules):
+        super().__init__(text, rules)
+        self.version = VERSION_5_8
+
+    def library(self):
+        while True:
+            key = self.key_held()
+            if key == "MACRO":
+                self.macro()
+            elif key == "VERSION":
+                self.version_number()
+            elif key == "BUSBITCHARS":
+                self.quoted(Kind.BUSBITCHARS, 2)
+            elif key == "DIVIDERCHAR":
+                self.quoted(Kind.DIVIDERCHAR, 1)
+            elif key == "NAMESCASESENSITIVE":
+                if self.version > VERSION_5_4:
+                    self.fail(5)
+                self.coded(Kind.NAMESCASESENSITIVE, LIBRARY)
+            elif key == "NOWIREEXTENSIONATPIN":
+                self.coded(Kind.NOWIREEXTENSIONATPIN, LIBRARY)
+            elif key == "UNITS":
+                self.units()
+            elif key == "SITE":
+                self.site()
+            elif key == "END":
+                self.take()
+                self.expect_key("LIBRARY")
+                return
+            else:
+                self.fail(8 if key == "BEGINEXT" else 5)
+
+    def version_number(self):
+        at = self.take().start
+        x = self.number()
+        self.semicolon()
+        if x[0] not in VERSIONS:
+            self.fail(6)
+        self.version = x[0]
+        self.put(Kind.VERSION, at, LIBRARY, x=x)
+
+    def quoted(self, kind, length):
+        at = self.take().start
+        quote = self.expect(STRING)
+        if quote.stop - quote.start != length + 2:
+            self.fail(6)
+        self.semicolon()
+        self.put(kind, at, LIBRARY, name=quote._replace(start=quote.start + 1, stop=quote.stop - 1))
+
+    def units(self):
+        owner = self.take().start
+        self.put(Kind.UNITS, owner, LIBRARY)
+        while True:
+            token = self.expect(NAME)
+            word = upper(self.word(token))
+            if word == "DATABASE":
+                self.expect_word("MICRONS")
+                x = self.number()
+                self.semicolon()
+                if x[0] not in MICRONS:
+                    self.fail(6)
+                self.put(Kind.DATABASE_MICRONS, token.start, owner, x=x)
+            elif word == "END":
+                self.expect_word("UNITS")
+                return
+            else:
+                self.fail(8 if word in OTHER_UNITS else 5)
+
+    def site(self):
+        owner, name = self.block(Kind.SITE, LIBRARY)
+        seen = set()
+        while True:
+            key = self.key_held()
+            if key == "END":
+                self.take()
+                self.expect_name(name)
+                break
+            if key == "CLASS":
+                self.coded(Kind.SITE_CLASS, owner)
+            elif key == "SYMMETRY":
+                self.symmetry(owner)
+            elif key == "SIZE":
+                self.size(owner)
+            else:
+                self.fail(8 if key == "ROWPATTERN" else 6)
+            seen.add(key)
+        if not {"CLASS", "SIZE"} <= seen:
+            self.fail(10)
+
+
+def reading(text, rules=NOW):
+    """The records of a text by rising `at`, or the Answer that refuses it."""
+    if rules.layers:
+        raise NotImplementedError("2026-10: routing layers, in a mode of their own")
+    try:
+        reader = Reader(text, rules)
+        reader.library()
+    except Refused as r:
+        return r.answer
+    records = [r for r in reader.records if not (rules.retired and r.kind == Kind.NAMESCASESENSITIVE)]
+    return sorted(records, key=lambda r: r.at)
+
+
+def read(text, room, rules=NOW):
+    """Reads into a buffer of so many bytes: the answer, and the bytes at the buffer's front that it changes."""
+    records = reading(text, rules)
+    if isinstance(records, Answer):
+        return records, b""
+    if SIZE * len(records) > room:
+        return Answer(11, len(records), 0), b""
+    return Answer(0, len(records), 0), pack(records)
