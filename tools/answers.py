@@ -162,6 +162,21 @@ def example():
     return [re.search("```%s\n(.*?)```" % name, form.file("docs", "RECORDS.md"), re.S)[1] for name in ("lef", "records")]
 
 
+# An entry of docs/DIFFERENCES.md that says how a text is refused, or that it is read.
+ENTRY = re.compile(r"^\| `([^`]+)` \| (?:refus(?:ed|al) (\d+) at (\d+)|(read))\b", re.M)
+
+
+def entries():
+    """Such entries: the text, and what is said of it."""
+    for text, number, place, read in ENTRY.findall(form.file("docs", "DIFFERENCES.md")):
+        yield text.encode("latin-1"), read or "refused %s at %s" % (number, place)
+
+
+def entry(text):
+    answer, _ = model.read(text, model.LONGEST)
+    return "refused %d at %d" % answer[:2] if answer.number else "read"
+
+
 LINES = {"replay": replay, "checks": checks, "writes": writes, "lookups": lookups}
 
 
@@ -179,19 +194,21 @@ def pairs(program):
         return [("line %d" % i, a + "\n") for i, a in enumerate(at_the_limit(), 1)]
     if program == "readings":
         return [(form.plain(t), reading(t) + "\n") for t, _ in form.readings()]
+    if program == "DIFFERENCES":
+        return [(form.plain(t), entry(t) + "\n") for t, _ in entries()]
     return [("line %d" % i, a) for i, a in enumerate(model.listing(example()[0].encode()).splitlines(True), 1)]
 
 
 def stored(program):
-    """The output that is stored for a program; of the two that are no programs, what stands for it."""
-    if program == "readings":
-        return "".join(a + "\n" for _, a in form.readings())
+    """The output that is stored for a program; of the three that are no programs, what stands for it."""
+    if program in ("readings", "DIFFERENCES"):
+        return "".join(a + "\n" for _, a in (form.readings() if program == "readings" else entries()))
     if program == "RECORDS":
         return example()[1]
     return form.file("crates", program, "stdout")
 
 
-PROGRAMS = list(LINES) + ["list", "limit", "measure", "RECORDS", "readings"]
+PROGRAMS = list(LINES) + ["list", "limit", "measure", "readings", "RECORDS", "DIFFERENCES"]
 
 
 def confirmed(program):

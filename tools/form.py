@@ -24,8 +24,8 @@ def line(letter, *fields):
 
 
 def file(*path):
-    """What stands in a file of the repository, byte for byte."""
-    with open(os.path.join(ROOT, *path), newline="") as f:
+    """What stands in a file of the repository, a character for each byte."""
+    with open(os.path.join(ROOT, *path), encoding="latin-1", newline="") as f:
         return f.read()
 
 
@@ -46,6 +46,6 @@ def store(program, lines, answers):
     size = sum(len(row) + 1 for row in lines)
     assert size <= 1 << 20, size
     for name, rows in ("stdin", lines), ("stdout", answers):
-        with open(os.path.join(ROOT, "crates", program, name), "w", newline="") as f:
+        with open(os.path.join(ROOT, "crates", program, name), "w", encoding="latin-1", newline="") as f:
             f.write("".join(row + "\n" for row in rows))
     print("%s: %d lines, %d bytes" % (program, len(lines), size))

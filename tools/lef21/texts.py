@@ -7,7 +7,7 @@ words     at every place where a token is judged every known word (key words, va
 short     all texts of a few tokens of a small alphabet, after the opening of each block or statement
 """
 import itertools, random, re
-from grammar import EDGES, Grammar, laid
+from grammar import EDGES, Grammar, laid, model
 
 # words of the reference that neither the original nor this library knows
 REFERENCE = """PROPERTYDEFINITIONS MANUFACTURINGGRID CLEARANCEMEASURE FIXEDMASK USEMINSPACING MAXVIASTACK VIARULE NONDEFAULTRULE ARRAY
@@ -68,7 +68,9 @@ HARSH = """5. -.5 -. - 1.2.3 0.0000001 10000001 10000000.000001 1..2 99999999999
 
 
 def words(sources):
-    """The words of the original's lists and of its reader, and those of the reference."""
+    """The words of the original's lists and of its reader, by the model's lists where no sources are given, and those of the reference."""
+    if not sources:
+        return sorted(model.KNOWN.union(model.OF_SOURCE, ["EOF"])) + REFERENCE
     lib, read = (open(sources + "/" + f).read() for f in ("lib.rs", "read.rs"))
     return sorted(set(re.findall(r'\w+: "([A-Z0-9]+)"', lib)) | set(re.findall(r'"([A-Z]+)"', read))) + REFERENCE
 

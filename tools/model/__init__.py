@@ -8,7 +8,7 @@ from .files import agreement, check, counting, in_force, name, owners
 from .lexer import END, NAME, NUMBER, SEMICOLON, STRING, Token, first_token, lex, screened, tokens
 from .listing import answered, listing
 from .numeral import millionths, written
-from .reader import read, reading
+from .reader import closing, read, reading
 from .record import (CODES, COUNTING, KEYS, LIBRARY, PARTS, SIZE, WITH_POINT, Kind, Record, aside, code_of, named, pack, parsed, printed,
                      record, rows, unpack)
 from .rules import GREATEST, LONGEST, MILLION, NOW, Answer, Refused, Rules

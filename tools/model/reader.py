@@ -12,6 +12,7 @@ class Reader(MacroReader):
         self.version = VERSION_5_8
 
     def library(self):
+        """All statements up to END LIBRARY: where that word stops."""
         while True:
             key = self.key_held()
             if key == "MACRO":
@@ -34,8 +35,9 @@ class Reader(MacroReader):
                 self.site()
             elif key == "END":
                 self.take()
+                stop = self.held.stop
                 self.expect_key("LIBRARY")
-                return
+                return stop
             else:
                 self.fail(8 if key == "BEGINEXT" else 5)
 
@@ -108,6 +110,11 @@ def reading(text, rules=NOW):
         return r.answer
     records = [r for r in reader.records if not (rules.retired and r.kind == Kind.NAMESCASESENSITIVE)]
     return sorted(records, key=lambda r: r.at)
+
+
+def closing(text, rules=NOW):
+    """Where the closing LIBRARY of a text that reads stops."""
+    return Reader(text, rules).library()
 
 
 def read(text, room, rules=NOW):
