@@ -2,7 +2,6 @@
 import functools
 import re
 import struct
-import sys
 
 import form
 import model

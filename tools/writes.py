@@ -91,8 +91,6 @@ def ask_tree(tree, few):
         ask(text, b"".join(records[:k] + records[k + 1 :]), n, refused(15, model.unpack(records[k])[0].at, 0, n))
         ask(text, file[:-1], 40, refused(13, len(file) - 1, 0, 40))
 
-
-
 trees = [(tree, False) for tree in each_statement()] + [(library(), True) for _ in range(85)]
 for tree, few in trees:
     ask_tree(tree, few)

@@ -8,89 +8,89 @@ CLASSES = CODES[Kind.MACRO_CLASS]
 
 
 class MacroReader(Taker):
-    def macro(self):
-        owner, name = self.block(Kind.MACRO, LIBRARY)
+    def parse_macro(self):
+        owner, name = self.parse_opening(Kind.MACRO, LIBRARY)
         while True:
-            key = self.key_held()
+            key = self.peek_key()
             if key == "CLASS":
-                self.macro_class(owner)
+                self.parse_macro_class(owner)
             elif key == "SITE":
                 at = self.take().start
                 site = self.expect(NAME)
                 self.semicolon()
                 self.put(Kind.MACRO_SITE, at, owner, name=site)
             elif key == "FOREIGN":
-                self.foreign(owner)
+                self.parse_foreign(owner)
             elif key == "ORIGIN":
                 at = self.take().start
-                point = self.point()
+                point = self.parse_point()
                 self.semicolon()
                 self.put(Kind.ORIGIN, at, owner, **point)
             elif key == "SIZE":
-                self.size(owner)
+                self.parse_size(owner)
             elif key == "PIN":
-                self.pin(owner)
+                self.parse_pin(owner)
             elif key == "OBS":
-                self.obstructions(owner)
+                self.parse_obstructions(owner)
             elif key == "SYMMETRY":
-                self.symmetry(owner)
+                self.parse_symmetries(owner)
             elif key == "SOURCE":
                 self.fail(5 if self.version > VERSION_5_4 else 8)
             elif key == "END":
                 self.take()
-                return self.expect_name(name)
+                return self.expect_ident(name)
             else:
                 self.fail(5)
 
-    def macro_class(self, owner):
+    def parse_macro_class(self, owner):
         """The class, and after all but RING a word more: of ENDCAP it is due, and BUMP is asked for as a key word."""
         at = self.take().start
-        value = self.value({c.split()[0] for c in CLASSES})
+        value = self.parse_enum({c.split()[0] for c in CLASSES})
         seconds = {c.split()[1] for c in CLASSES if c.startswith(value + " ")}
         if value == "COVER" and not self.holds(SEMICOLON):
             self.expect_key("BUMP")
             value += " BUMP"
         elif value == "ENDCAP" or value not in ("COVER", "RING") and not self.holds(SEMICOLON):
-            value += " " + self.value(seconds)
+            value += " " + self.parse_enum(seconds)
         self.semicolon()
         self.put(Kind.MACRO_CLASS, at, owner, code_of(Kind.MACRO_CLASS, value))
 
-    def foreign(self, owner):
+    def parse_foreign(self, owner):
         at = self.take().start
         cell = self.expect(NAME)
         code, point = 0, {}
         if not self.holds(SEMICOLON):
-            code, point = WITH_POINT, self.point()
+            code, point = WITH_POINT, self.parse_point()
         if self.holds(NAME):
             self.fail(8)
         self.semicolon()
         self.put(Kind.FOREIGN, at, owner, code, cell, **point)
 
-    def pin(self, macro):
-        owner, name = self.block(Kind.PIN, macro)
+    def parse_pin(self, macro):
+        owner, name = self.parse_opening(Kind.PIN, macro)
         while True:
-            key = self.key_held()
+            key = self.peek_key()
             if key == "END":
                 self.take()
-                return self.expect_name(name)
+                return self.expect_ident(name)
             if key == "PORT":
-                self.port(owner)
+                self.parse_port(owner)
             elif key == "DIRECTION":
-                self.direction(owner)
+                self.parse_pin_direction(owner)
             elif key == "USE":
-                self.coded(Kind.USE, owner)
+                self.parse_coded(Kind.USE, owner)
             elif key == "SHAPE":
-                self.coded(Kind.SHAPE, owner)
+                self.parse_coded(Kind.SHAPE, owner)
             elif key == "ANTENNAMODEL":
-                self.antenna_model(owner)
+                self.parse_antenna_model(owner)
             elif key in CODES[Kind.ANTENNA]:
-                self.antenna(key, owner)
+                self.parse_antenna(key, owner)
             else:
                 self.fail(8 if key in OTHER_OF_PIN else 5)
 
-    def direction(self, owner):
+    def parse_pin_direction(self, owner):
         at = self.take().start
-        value = self.key()
+        value = self.get_key()
         if value not in ("INPUT", "OUTPUT", "INOUT", "FEEDTHRU"):
             self.fail(6)
         if value == "OUTPUT" and not self.holds(SEMICOLON):
@@ -99,82 +99,82 @@ class MacroReader(Taker):
         self.semicolon()
         self.put(Kind.DIRECTION, at, owner, code_of(Kind.DIRECTION, value))
 
-    def antenna_model(self, owner):
+    def parse_antenna_model(self, owner):
         """Its word, and no semicolon; with 2026-03 a semicolon."""
         at = self.take().start
-        value = self.value(CODES[Kind.ANTENNAMODEL])
+        value = self.parse_enum(CODES[Kind.ANTENNAMODEL])
         if self.rules.model_semicolon:
             self.semicolon()
         self.put(Kind.ANTENNAMODEL, at, owner, code_of(Kind.ANTENNAMODEL, value))
 
-    def antenna(self, key, owner):
+    def parse_antenna(self, key, owner):
         at = self.take().start
-        x, layer = self.number(), None
+        x, layer = self.parse_number(), None
         if not self.holds(SEMICOLON):
             self.expect_key("LAYER")
             layer = self.expect(NAME)
         self.semicolon()
         self.put(Kind.ANTENNA, at, owner, code_of(Kind.ANTENNA, key), layer, x)
 
-    def port(self, pin):
+    def parse_port(self, pin):
         owner = self.take().start
         self.put(Kind.PORT, owner, pin)
         while True:
-            key = self.key_held()
+            key = self.peek_key()
             if key == "CLASS":
-                self.coded(Kind.PORT_CLASS, owner)
+                self.parse_coded(Kind.PORT_CLASS, owner)
             elif not self.layer_or_end(key, owner):
                 return
 
-    def obstructions(self, macro):
+    def parse_obstructions(self, macro):
         owner = self.take().start
         self.put(Kind.OBS, owner, macro)
-        while self.layer_or_end(self.key_held(), owner):
+        while self.layer_or_end(self.peek_key(), owner):
             pass
 
     def layer_or_end(self, key, owner):
         """A layer is read; END is taken and ends the block."""
         if key == "LAYER":
-            self.layer(owner)
+            self.parse_layer_geometries(owner)
         elif key == "END":
             self.take()
         else:
             self.fail(5)
         return key == "LAYER"
 
-    def layer(self, block):
+    def parse_layer_geometries(self, block):
         owner = self.take().start
         self.put(Kind.LAYER, owner, block, name=self.expect(NAME))
         while not self.holds(SEMICOLON):
-            at, key = self.held.start, self.key()
+            at, key = self.held.start, self.get_key()
             if key not in CODES[Kind.LAYER_OPTION]:
                 self.fail(5)
             code = code_of(Kind.LAYER_OPTION, key)
-            x = (0, 0) if code == EXCEPTPGNET else self.number()
+            x = (0, 0) if code == EXCEPTPGNET else self.parse_number()
             self.put(Kind.LAYER_OPTION, at, owner, code, x=x)
         self.semicolon()
         while True:
-            key = self.key_held()
+            key = self.peek_key()
             if key in ("LAYER", "END"):
                 return
-            self.geometry(key, owner)
+            self.parse_geometry(key, owner)
 
-    def geometry(self, key, owner):
+    def parse_geometry(self, key, owner):
         if key == "RECT":
-            self.rect(owner)
+            self.parse_rect(owner)
         elif key == "POLYGON":
-            self.points(Kind.POLYGON, 3, owner)
+            self.parse_points(Kind.POLYGON, 3, owner)
         elif key == "PATH":
-            self.points(Kind.PATH, 2, owner)
+            self.parse_points(Kind.PATH, 2, owner)
         elif key == "VIA":
             at = self.take().start
             if self.holds(NAME):
                 self.fail(8)
-            point, via = self.point(), self.expect(NAME)
+            point, via = self.parse_point(), self.expect(NAME)
             self.semicolon()
             self.put(Kind.VIA, at, owner, name=via, **point)
         elif key == "WIDTH":
-            at, x = self.take().start, self.number()
+            at, x = self.take().start, self.parse_number()
             self.semicolon()
             self.put(Kind.WIDTH, at, owner, x=x)
         else:
@@ -182,9 +182,9 @@ class MacroReader(Taker):
 
     def shape_point(self, owner):
         at = self.held.start
-        self.put(Kind.POINT, at, owner, **self.point())
+        self.put(Kind.POINT, at, owner, **self.parse_point())
 
-    def rect(self, owner):
+    def parse_rect(self, owner):
         at = self.take().start
         self.put(Kind.RECT, at, owner)
         if self.holds(NAME):
@@ -193,7 +193,7 @@ class MacroReader(Taker):
         self.shape_point(at)
         self.semicolon()
 
-    def points(self, kind, least, owner):
+    def parse_points(self, kind, least, owner):
         """Points up to a semicolon; that they are enough is tested before it is taken."""
         at = self.take().start
         self.put(kind, at, owner)

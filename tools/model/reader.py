@@ -3,36 +3,32 @@ from .lexer import NAME, STRING
 from .macro import MacroReader
 from .record import LIBRARY, SIZE, Kind, pack
 from .rules import NOW, Answer, Refused
-from .words import MICRONS, OTHER_UNITS, VERSION_5_4, VERSION_5_8, VERSIONS, upper
+from .words import MICRONS, OTHER_UNITS, VERSION_5_4, VERSIONS, upper
 
 
 class Reader(MacroReader):
-    def __init__(self, text, rules):
-        super().__init__(text, rules)
-        self.version = VERSION_5_8
-
-    def library(self):
+    def parse_lib(self):
         """All statements up to END LIBRARY: where that word stops."""
         while True:
-            key = self.key_held()
+            key = self.peek_key()
             if key == "MACRO":
-                self.macro()
+                self.parse_macro()
             elif key == "VERSION":
-                self.version_number()
+                self.parse_version()
             elif key == "BUSBITCHARS":
-                self.quoted(Kind.BUSBITCHARS, 2)
+                self.parse_quoted(Kind.BUSBITCHARS, 2)
             elif key == "DIVIDERCHAR":
-                self.quoted(Kind.DIVIDERCHAR, 1)
+                self.parse_quoted(Kind.DIVIDERCHAR, 1)
             elif key == "NAMESCASESENSITIVE":
                 if self.version > VERSION_5_4:
                     self.fail(5)
-                self.coded(Kind.NAMESCASESENSITIVE, LIBRARY)
+                self.parse_coded(Kind.NAMESCASESENSITIVE, LIBRARY)
             elif key == "NOWIREEXTENSIONATPIN":
-                self.coded(Kind.NOWIREEXTENSIONATPIN, LIBRARY)
+                self.parse_coded(Kind.NOWIREEXTENSIONATPIN, LIBRARY)
             elif key == "UNITS":
-                self.units()
+                self.parse_units()
             elif key == "SITE":
-                self.site()
+                self.parse_site_def()
             elif key == "END":
                 self.take()
                 stop = self.held.stop
@@ -41,16 +37,16 @@ class Reader(MacroReader):
             else:
                 self.fail(8 if key == "BEGINEXT" else 5)
 
-    def version_number(self):
+    def parse_version(self):
         at = self.take().start
-        x = self.number()
+        x = self.parse_number()
         self.semicolon()
         if x[0] not in VERSIONS:
             self.fail(6)
         self.version = x[0]
         self.put(Kind.VERSION, at, LIBRARY, x=x)
 
-    def quoted(self, kind, length):
+    def parse_quoted(self, kind, length):
         at = self.take().start
         quote = self.expect(STRING)
         if quote.stop - quote.start != length + 2:
@@ -58,40 +54,40 @@ class Reader(MacroReader):
         self.semicolon()
         self.put(kind, at, LIBRARY, name=quote._replace(start=quote.start + 1, stop=quote.stop - 1))
 
-    def units(self):
+    def parse_units(self):
         owner = self.take().start
         self.put(Kind.UNITS, owner, LIBRARY)
         while True:
             token = self.expect(NAME)
             word = upper(self.word(token))
             if word == "DATABASE":
-                self.expect_word("MICRONS")
-                x = self.number()
+                self.expect_keyword("MICRONS")
+                x = self.parse_number()
                 self.semicolon()
                 if x[0] not in MICRONS:
                     self.fail(6)
                 self.put(Kind.DATABASE_MICRONS, token.start, owner, x=x)
             elif word == "END":
-                self.expect_word("UNITS")
+                self.expect_keyword("UNITS")
                 return
             else:
                 self.fail(8 if word in OTHER_UNITS else 5)
 
-    def site(self):
-        owner, name = self.block(Kind.SITE, LIBRARY)
+    def parse_site_def(self):
+        owner, name = self.parse_opening(Kind.SITE, LIBRARY)
         seen = set()
         while True:
-            key = self.key_held()
+            key = self.peek_key()
             if key == "END":
                 self.take()
-                self.expect_name(name)
+                self.expect_ident(name)
                 break
             if key == "CLASS":
-                self.coded(Kind.SITE_CLASS, owner)
+                self.parse_coded(Kind.SITE_CLASS, owner)
             elif key == "SYMMETRY":
-                self.symmetry(owner)
+                self.parse_symmetries(owner)
             elif key == "SIZE":
-                self.size(owner)
+                self.parse_size(owner)
             else:
                 self.fail(8 if key == "ROWPATTERN" else 6)
             seen.add(key)
@@ -105,7 +101,7 @@ def reading(text, rules=NOW):
         raise NotImplementedError("2026-10: routing layers, in a mode of their own")
     try:
         reader = Reader(text, rules)
-        reader.library()
+        reader.parse_lib()
     except Refused as r:
         return r.answer
     records = [r for r in reader.records if not (rules.retired and r.kind == Kind.NAMESCASESENSITIVE)]
@@ -114,7 +110,7 @@ def reading(text, rules=NOW):
 
 def closing(text, rules=NOW):
     """Where the closing LIBRARY of a text that reads stops."""
-    return Reader(text, rules).library()
+    return Reader(text, rules).parse_lib()
 
 
 def read(text, room, rules=NOW):

@@ -3,7 +3,7 @@ from . import numeral
 from .lexer import END, NAME, NUMBER, SEMICOLON, lex, screen
 from .record import CODES, Kind, code_of, record
 from .rules import Refused
-from .words import KEY_WORDS, upper
+from .words import KEY_WORDS, VERSION_5_8, upper
 
 
 class Taker:
@@ -13,6 +13,7 @@ class Taker:
     def __init__(self, text, rules):
         screen(text)
         self.text, self.rules, self.records = text, rules, []
+        self.version = VERSION_5_8
         self.held = lex(text, 0, 1)
 
     def fail(self, number):
@@ -40,13 +41,13 @@ class Taker:
     def semicolon(self):
         self.expect(SEMICOLON)
 
-    def key_held(self):
+    def peek_key(self):
         """The key word held ahead, which is not taken."""
         if not self.holds(NAME):
             self.fail(4)
         return self.known(self.held)
 
-    def key(self):
+    def get_key(self):
         return self.known(self.expect(NAME))
 
     def known(self, token):
@@ -56,26 +57,26 @@ class Taker:
         return word
 
     def expect_key(self, key):
-        if self.key() != key:
+        if self.get_key() != key:
             self.fail(7)
 
-    def expect_word(self, word):
+    def expect_keyword(self, word):
         if upper(self.word(self.expect(NAME))) != word:
             self.fail(7)
 
-    def expect_name(self, name):
+    def expect_ident(self, name):
         """The identifier after END, compared exactly."""
         if self.word(self.expect(NAME)) != name:
             self.fail(7)
 
-    def value(self, values):
+    def parse_enum(self, values):
         """One of these words."""
         word = upper(self.word(self.expect(NAME)))
         if word not in values:
             self.fail(6)
         return word
 
-    def number(self):
+    def parse_number(self):
         """A numeral's millionths, and how many decimals the record keeps of it."""
         token = self.expect(NUMBER)
         word = self.word(token)
@@ -91,36 +92,36 @@ class Taker:
         start, length = (name.start, name.stop - name.start) if name else (0, 0)
         self.records.append(record(kind, at, owner, code, start, length, x[0], y[0], x[1] + 256 * y[1]))
 
-    def point(self):
-        return {"x": self.number(), "y": self.number()}
+    def parse_point(self):
+        return {"x": self.parse_number(), "y": self.parse_number()}
 
-    def block(self, kind, owner):
+    def parse_opening(self, kind, owner):
         """The opening key word and the name of a block, which is a record: its `at`, and its name's bytes."""
         at = self.take().start
         name = self.expect(NAME)
         self.put(kind, at, owner, name=name)
         return at, self.word(name)
 
-    def coded(self, kind, owner):
+    def parse_coded(self, kind, owner):
         """A key word, one word of the kind's values, and a semicolon."""
         at = self.take().start
-        code = code_of(kind, self.value(CODES[kind]))
+        code = code_of(kind, self.parse_enum(CODES[kind]))
         self.semicolon()
         self.put(kind, at, owner, code)
 
-    def symmetry(self, owner):
+    def parse_symmetries(self, owner):
         at = self.take().start
         self.put(Kind.SYMMETRY, at, owner)
         while not self.holds(SEMICOLON):
             start = self.held.start
-            word = self.value(CODES[Kind.SYMMETRY_WORD])
+            word = self.parse_enum(CODES[Kind.SYMMETRY_WORD])
             self.put(Kind.SYMMETRY_WORD, start, at, code_of(Kind.SYMMETRY_WORD, word))
         self.semicolon()
 
-    def size(self, owner):
+    def parse_size(self, owner):
         at = self.take().start
-        x = self.number()
+        x = self.parse_number()
         self.expect_key("BY")
-        y = self.number()
+        y = self.parse_number()
         self.semicolon()
         self.put(Kind.SIZE, at, owner, x=x, y=y)
