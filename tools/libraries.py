@@ -33,7 +33,7 @@ class Statement:
             K.POINT: [x, y],
             K.VIA: [x, y, name, ";"],
             K.SYMMETRY_WORD: value,
-            K.ANTENNAMODEL: value,
+            K.ANTENNAMODEL: value + [";"] * model.NOW.model_semicolon,
         }
         forms.update(dict.fromkeys((K.VERSION, K.WIDTH), [x, ";"]))
         forms.update(dict.fromkeys((K.SITE, K.MACRO, K.PIN, K.LAYER), [name]))

@@ -137,7 +137,7 @@ class Grammar:
         return self.statement(self.word("SHAPE"), self.value(K.SHAPE))
 
     def model(self):
-        return [self.word("ANTENNAMODEL"), self.value(K.ANTENNAMODEL)]
+        return [self.word("ANTENNAMODEL"), self.value(K.ANTENNAMODEL)] + [";"] * model.NOW.model_semicolon
 
     def antenna(self):
         return self.statement(self.value(K.ANTENNA), self.number(), self.pick(([], [self.word("LAYER"), self.name()])))

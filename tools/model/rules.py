@@ -4,7 +4,6 @@ A request lands by turning its switch on here; until then nothing asks for it bu
 only add calls need no switch: a pin found by its name and many names in one call (2026-01, 2026-02) will join files.py, text that arrives
 in parts (2026-06) lexer.py, the salvage (2026-13) reader.py, geometry on the grid (2026-14) files.py, and the tidying of 2026-11 writer.py.
 2026-04 and 2026-08 change no answer, and 2026-09 says something of today's."""
-from dataclasses import dataclass
 from typing import NamedTuple
 
 LONGEST = 16777216  # bytes of a text
@@ -12,8 +11,7 @@ MILLION = 1000000
 GREATEST = 10000000 * MILLION  # the magnitude of a field
 
 
-@dataclass(frozen=True)
-class Rules:
+class Rules(NamedTuple):
     model_semicolon: bool = False  # 2026-03: ANTENNAMODEL ends with a semicolon
     numeral_place: bool = False  # 2026-05: refusal 9 names the byte at which the numeral cannot go on, and its line
     decimals: bool = False  # 2026-07: bytes 2 and 3 have how many decimals were written for x and for y
