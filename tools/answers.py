@@ -1,5 +1,6 @@
 """What each program of the gate has to print, by the model, line by line from what it is given; and whether that is what is stored."""
 import functools
+import os
 import re
 import struct
 
@@ -210,17 +211,25 @@ def stored(program):
 PROGRAMS = list(LINES) + ["list", "limit", "measure", "readings", "RECORDS", "DIFFERENCES"]
 
 
+def difference(said, place, answer):
+    """Where an answer is not what stands at its place: the line of the output, what stands there, and what should."""
+    lines, stored = answer.split("\n"), said[place:].split("\n")
+    i = next(i for i, a in enumerate(lines) if stored[i : i + 1] != [a])
+    return said.count("\n", 0, place) + 1 + i, stored[i] if i < len(stored) else "", lines[i]
+
+
 def confirmed(program):
-    """Compares all that is stored for a program with the model's answers, prints how many agree, or the first that does not."""
+    """Compares all that is stored for a program with the model's answers, prints how many agree, or the first line that does not."""
     said, place, count = stored(program), 0, 0
     for question, answer in pairs(program):
-        if said[place : place + len(answer)] != answer:
-            print("%s: line %d differs\n  asked  %s\n  stored %s\n  model  %s"
-                  % (program, said.count("\n", 0, place) + 1, question[:300], said[place : place + len(answer) + 40].split("\n")[0], answer.rstrip("\n")))
+        if not said.startswith(answer, place):
+            line, theirs, ours = difference(said, place, answer)
+            part = slice(max(0, len(os.path.commonprefix([theirs, ours])) - 100), None)
+            print("%s: line %d differs\n  asked  %s\n  stored %s\n  model  %s" % (program, line, question, theirs[part][:300], ours[part][:300]))
             return False
         place, count = place + len(answer), count + 1
-    if place != len(said):
-        print("%s: line %d is stored, and nothing asks for it" % (program, said.count("\n", 0, place) + 1))
+    if place != len(said) or not count:
+        print("%s: line %d is stored, and nothing asks for it" % (program, said.count("\n", 0, place) + 1) if count else "%s: nothing is stored" % program)
         return False
     print("%s: %d answers confirmed" % (program, count))
     return True
