@@ -1,6 +1,6 @@
-// Replays checks: each line of standard input is a letter and bytes in hexadecimal, and the answer to it is printed on a line, as number,
-// place and line.
-//   c TEXT FILE      a text and a record file, with a space between them
+// Replays checks: each line of standard input is a letter and its fields, and the answer to it is printed on a line, as number, place
+// and line. Between two fields stands `|`. A TEXT is written as src/plain.rt of `vectors` has it, any other field in hexadecimal.
+//   c TEXT FILE      a text and a record file
 //   m NUMBERS        a long text, of n statements `VERSION 5 ;`, and a file of `held` records: number i is the reading's (i * step) % n,
 //                    but that at index `odd` is the reading's `put`, and foreign from n on. Each is three bytes, the lowest first:
 //                    n, held, step, odd, put
@@ -10,6 +10,7 @@ ghost use lib.ListN.{length};
 use record::Record;
 use refusal::Refusal;
 use vectors::hex;
+use vectors::plain;
 use vectors::say;
 
 fn main() {
@@ -33,7 +34,7 @@ fn line(part: &[u8]) {
     }
     let letter = part[0];
     match letter {
-        b'c' => given(part),
+        b'c' => given(&part[1..]),
         b'm' => made(&part[1..]),
         _ => say::text(b"?"),
     }
@@ -46,14 +47,14 @@ fn answer(a: Refusal) {
     say::number(a.line as u64);
 }
 
-fn given(part: &[u8]) {
+fn given(fields: &[u8]) {
     let mut text = [0u8; 4096];
     let mut file = [0u8; 4096];
-    let stop = vectors::next_of(b' ', part, 1);
-    if stop < part.len() {
-        let n = hex::bytes(&part[1..stop], &mut text);
+    let stop = vectors::next_of(b'|', fields, 0);
+    if stop < fields.len() {
+        let n = plain::bytes(&fields[0..stop], &mut text);
         let next = stop + 1;
-        let m = hex::bytes(&part[next..], &mut file);
+        let m = hex::bytes(&fields[next..], &mut file);
         answer(checker::check(&text[0..n], &file[0..m]));
     }
 }

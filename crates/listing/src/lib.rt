@@ -1,4 +1,7 @@
-// How the reading of a text is listed: its records, or its refusal, in decimal.
+// How the reading of a text is listed: its records, or its refusal, in decimal. What is written goes to the system, of which no contract can
+// speak: `list` has none, and `answer` says only what it returns.
+ghost use mathlib.Core.Path.{_≡_};
+ghost use lib.Dec.{eqb};
 use file::Found;
 use reader::reading;
 use record::Record;
@@ -20,12 +23,20 @@ pub fn list(text: &[u8]) {
 }
 
 // The records that an answer counts, with the mark between them, or the refusal. Says whether the text was read.
-pub fn answer(a: Refusal, records: &[u8], mark: &[u8]) -> bool {
-    if a.number != 0 {
+pub fn answer(a: Refusal, records: &[u8], mark: &[u8]) -> bool
+    ensures { λ r. ⌜ r ≡ eqb (a .number) 0 ⌝ }
+{
+    let read = a.number == Refusal::DONE;
+    if read {
+        first(a.place, records, mark);
+    } else {
         refusal(a);
-        return false;
     }
-    let count = a.place;
+    read
+}
+
+// The first records, so many as are counted.
+fn first(count: usize, records: &[u8], mark: &[u8]) {
     let mut i = 0;
     while i < count {
         if i != 0 {
@@ -34,7 +45,6 @@ pub fn answer(a: Refusal, records: &[u8], mark: &[u8]) -> bool {
         found(file::read(records, i));
         i += 1;
     }
-    true
 }
 
 fn refusal(a: Refusal) {

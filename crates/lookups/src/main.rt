@@ -1,8 +1,8 @@
-// Runs look-ups: each line of standard input is a letter and bytes in hexadecimal, and the answer to it is printed on a line.
+// Runs look-ups: each line of standard input is a letter and its fields, and the answer to it is printed on a line. Between two fields
+// stands `|`. A TEXT is written as src/plain.rt of `vectors` has it, any other field in hexadecimal.
 //   f OWNER KIND CODE FILE    the record in force for an owner (eight bytes), a kind and a code (one each): refusal, place, line, then
 //                             1 and its index, or 0 and 0
-//   n LENGTH TEXT FILE        the names of all records, and of one past the file, in a text of that length (one byte): `;`, the length
-//                             and the bytes of each
+//   n TEXT FILE               the names of all records, and of one past the file, in a text: `;`, the length and the bytes of each
 //   o FILE                    the owners of all records, and of one past the file: `;`, refusal, place, line and count of each
 //   u COUNT, d COUNT          a chain of so many owners (four bytes), with `at` rising in the file or falling: the owners of its last
 //                             record and of its first
@@ -10,6 +10,7 @@ use lookup::Chain;
 use lookup::InForce;
 use record::Record;
 use vectors::hex;
+use vectors::plain;
 use vectors::say;
 
 fn main() {
@@ -28,29 +29,43 @@ fn lines(input: &[u8]) {
 }
 
 fn line(part: &[u8]) {
-    let mut bytes = [0u8; 4096];
     if part.len() == 0 {
         return;
     }
-    let n = hex::bytes(&part[1..], &mut bytes);
     let letter = part[0];
     match letter {
-        b'f' => force(&bytes[0..n]),
-        b'n' => names(&bytes[0..n]),
-        b'o' => chains(&bytes[0..n]),
-        b'u' => long(little::number(&bytes, 0, 4) as usize, false),
-        b'd' => long(little::number(&bytes, 0, 4) as usize, true),
+        b'f' => force(&part[1..]),
+        b'n' => names(&part[1..]),
+        b'o' => owners(&part[1..]),
+        b'u' => long(count(&part[1..]), false),
+        b'd' => long(count(&part[1..]), true),
         _ => say::text(b"?"),
     }
     say::newline();
 }
 
-fn force(part: &[u8]) {
-    if part.len() < 10 {
+fn force(fields: &[u8]) {
+    if fields.len() < 23 {
         return;
     }
-    let owner = little::number(part, 0, 8) as usize;
-    match lookup::in_force(&part[10..], owner, part[8], part[9]) {
+    let mut owner = [0u8; 8];
+    let mut kind = [0u8; 1];
+    let mut code = [0u8; 1];
+    let mut file = [0u8; 4096];
+    hex::bytes(&fields[0..16], &mut owner);
+    hex::bytes(&fields[17..19], &mut kind);
+    hex::bytes(&fields[20..22], &mut code);
+    let n = hex::bytes(&fields[23..], &mut file);
+    in_force(
+        &file[0..n],
+        little::number(&owner, 0, 8) as usize,
+        kind[0],
+        code[0],
+    );
+}
+
+fn in_force(file: &[u8], owner: usize, kind: u8, code: u8) {
+    match lookup::in_force(file, owner, kind, code) {
         InForce::At(i) => five(0, 0, 0, 1, i),
         InForce::None => five(0, 0, 0, 0, 0),
         InForce::Refused(r) => five(r.number, r.place, r.line, 0, 0),
@@ -65,23 +80,22 @@ fn five(refusal: usize, place: usize, line: usize, found: u64, index: usize) {
     say::number(index as u64);
 }
 
-fn wide(b: u8) -> usize {
-    b as usize
+fn names(fields: &[u8]) {
+    let mut text = [0u8; 4096];
+    let mut file = [0u8; 4096];
+    let stop = vectors::next_of(b'|', fields, 0);
+    if stop < fields.len() {
+        let n = plain::bytes(&fields[0..stop], &mut text);
+        let next = stop + 1;
+        let m = hex::bytes(&fields[next..], &mut file);
+        all_names(&text[0..n], &file[0..m]);
+    }
 }
 
-fn names(part: &[u8]) {
-    if part.len() == 0 {
-        return;
-    }
-    let rest = &part[1..];
-    let length = wide(part[0]);
-    if rest.len() < length {
-        return;
-    }
-    let file = &rest[length..];
+fn all_names(text: &[u8], file: &[u8]) {
     let mut i = 0;
     while i <= file.len() / 36 {
-        one_name(lookup::name(&rest[0..length], file, i));
+        one_name(lookup::name(text, file, i));
         i += 1;
     }
 }
@@ -90,6 +104,12 @@ fn one_name(name: &[u8]) {
     say::text(b";");
     say::number(name.len() as u64);
     say::bytes(name);
+}
+
+fn owners(field: &[u8]) {
+    let mut file = [0u8; 4096];
+    let n = hex::bytes(field, &mut file);
+    chains(&file[0..n]);
 }
 
 fn chains(file: &[u8]) {
@@ -113,6 +133,12 @@ fn four(refusal: usize, place: usize, line: usize, count: usize) {
     say::number(place as u64);
     say::number(line as u64);
     say::number(count as u64);
+}
+
+fn count(field: &[u8]) -> usize {
+    let mut bytes = [0u8; 4];
+    hex::bytes(field, &mut bytes);
+    little::number(&bytes, 0, 4) as usize
 }
 
 // A chain of at most 50,000 records.

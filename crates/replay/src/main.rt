@@ -1,4 +1,5 @@
-// Replays vectors: each line of standard input is a letter and bytes in hexadecimal, and the answer to it is printed on a line.
+// Replays vectors: each line of standard input is a letter and its fields, and the answer to it is printed on a line. Between two fields
+// stands `|`. A TEXT is written as src/plain.rt of `vectors` has it, any other field in hexadecimal.
 //   t TEXT           all tokens of a text, each as kind, start, stop and line; then `end`, or `bad` with place and line
 //   f PLACE TEXT     the first token from a place (one byte), as refusal, place, line, kind, start, stop
 //   n TEXT           a numeral as its sign and millionths, or `not`; then the shortest numeral of that value
@@ -15,6 +16,7 @@ use numeral::Written;
 use reader::reading;
 use record::Record;
 use vectors::hex;
+use vectors::plain;
 use vectors::say;
 
 fn main() {
@@ -33,24 +35,49 @@ fn lines(input: &[u8]) {
 }
 
 fn line(part: &[u8]) {
-    let mut text = [0u8; 8192];
     if part.len() == 0 {
         return;
     }
-    let n = hex::bytes(&part[1..], &mut text);
     let letter = part[0];
     match letter {
-        b't' => tokens(&text[0..n]),
-        b'f' => first(&text[0..n]),
-        b'n' => value(&text[0..n]),
-        b'w' => word(&text[0..n]),
-        b'c' => code(&text[0..n]),
-        b'l' => reading(&text[0..n]),
-        b'p' => run(&text[0..n]),
-        b'r' => records(&text[0..n]),
-        _ => say::text(b"?"),
+        b'f' | b'c' | b'p' => numbered(letter, &part[1..]),
+        b'r' => held(&part[1..]),
+        _ => written(letter, &part[1..]),
     }
     say::newline();
+}
+
+fn written(letter: u8, field: &[u8]) {
+    let mut text = [0u8; 8192];
+    let n = plain::bytes(field, &mut text);
+    match letter {
+        b't' => tokens(&text[0..n]),
+        b'n' => value(&text[0..n]),
+        b'w' => word(&text[0..n]),
+        b'l' => reading(&text[0..n]),
+        _ => say::text(b"?"),
+    }
+}
+
+fn numbered(letter: u8, fields: &[u8]) {
+    if fields.len() < 3 {
+        return;
+    }
+    let mut number = [0u8; 1];
+    let mut text = [0u8; 8192];
+    hex::bytes(&fields[0..2], &mut number);
+    let n = plain::bytes(&fields[3..], &mut text);
+    match letter {
+        b'f' => first(number[0], &text[0..n]),
+        b'c' => code(number[0], &text[0..n]),
+        _ => run(number[0], &text[0..n]),
+    }
+}
+
+fn held(field: &[u8]) {
+    let mut file = [0u8; 8192];
+    let n = hex::bytes(field, &mut file);
+    records(&file[0..n]);
 }
 
 fn tokens(text: &[u8]) {
@@ -82,21 +109,12 @@ fn tokens(text: &[u8]) {
     }
 }
 
-fn first(text: &[u8]) {
-    if text.len() == 0 {
-        return;
-    }
-    let place = wide(text[0]);
-    let rest = &text[1..];
-    match lexer::first_token(rest, place) {
+fn first(place: u8, text: &[u8]) {
+    match lexer::first_token(text, place as usize) {
         Answer::Found(t) => six(0, 0, 0, t.kind, t.start, t.stop),
-        Answer::End => six(0, 0, 0, 0, rest.len(), rest.len()),
+        Answer::End => six(0, 0, 0, 0, text.len(), text.len()),
         Answer::Refused(r) => six(r.number, r.place, r.line, 0, 0, 0),
     }
-}
-
-fn wide(b: u8) -> usize {
-    b as usize
 }
 
 fn six(refusal: usize, place: usize, line: usize, kind: usize, start: usize, stop: usize) {
@@ -138,13 +156,9 @@ fn word(text: &[u8]) {
     }
 }
 
-fn code(text: &[u8]) {
-    if text.len() == 0 {
-        return;
-    }
-    let kind = text[0];
-    let stop = vectors::next_of(b' ', text, 1);
-    let first = word::word_of(&text[1..stop]);
+fn code(kind: u8, text: &[u8]) {
+    let stop = vectors::next_of(b' ', text, 0);
+    let first = word::word_of(&text[0..stop]);
     if stop < text.len() {
         let next = stop + 1;
         let second = word::word_of(&text[next..]);
@@ -159,14 +173,11 @@ fn reading(text: &[u8]) {
     listing::answer(reading::read(text, &mut records), &records, b";");
 }
 
-fn run(text: &[u8]) {
-    if text.len() == 0 {
-        return;
-    }
+fn run(number: u8, text: &[u8]) {
     say::text(b"run ");
-    say::number(wide(text[0]) as u64);
+    say::number(number as u64);
     say::newline();
-    listing::list(&text[1..]);
+    listing::list(text);
 }
 
 fn records(file: &[u8]) {

@@ -1,21 +1,23 @@
-// What the programs that replay vectors share: lines, bytes in hexadecimal, and printing.
+// What the programs that replay vectors share: lines, bytes in hexadecimal, texts, and printing.
 ghost use mathlib.Core.Path.{_≡_};
-ghost use Prim.Native.Nat.{_≤_, min};
-ghost use lib.ListN.{length};
+ghost use lib.ListN.{length, replicate};
+ghost use Rattle.vectors.specs.Next.{next};
 
 pub mod hex;
+pub mod plain;
 pub mod say;
 
 // A million zeros, for the lines of a program's input.
 pub fn input() -> [u8; 1048576]
-    ensures { λ r. ⌜ 1048576 ≡ length r ⌝ }
+    ensures eq { λ r. ⌜ r ≡ replicate 1048576 0 ⌝ }
+    ensures size { λ r. ⌜ 1048576 ≡ length r ⌝ }
 {
     [0; 1048576]
 }
 
 // The place of the next such byte from a place on, or the end.
 pub fn next_of(byte: u8, input: &[u8], at: usize) -> usize
-    ensures { λ r. ⌜ (min at (length (now (input .entry))) ≤ r) × (r ≤ length (now (input .entry))) ⌝ }
+    ensures { λ r. ⌜ r ≡ next byte (now (input .entry)) at ⌝ }
 {
     if input.len() < at {
         return input.len();

@@ -1,4 +1,5 @@
-// What the program prints.
+// What the program prints. What is written goes to the system, of which no contract can speak: these functions have none, and are proved to
+// be safe and to end.
 pub fn text(word: &[u8]) {
     io::write_all(1, word);
 }

@@ -1,9 +1,11 @@
-// Replays writing: each line of standard input asks for one, and the answer to it is printed on a line.
-//   w ROOM TEXT FILE   the room in four digits, a text, a space and a record file, in hexadecimal: number, place and line, and then
-//                      the buffer, which was filled with `~`
+// Replays writing: each line of standard input is a letter and its fields, and the answer to it is printed on a line. Between two fields
+// stands `|`. A TEXT is written as src/plain.rt of `vectors` has it, any other field in hexadecimal; what is printed of a buffer is too.
+//   w ROOM TEXT FILE   the room in four digits, a text and a record file: number, place and line, and then the buffer, which was filled
+//                      with `~`
 //   a TEXT             a text, which is read into a file and written: what is written, or `refusal` with number, place and line
 use refusal::Refusal;
 use vectors::hex;
+use vectors::plain;
 use vectors::say;
 
 fn main() {
@@ -27,7 +29,7 @@ fn line(part: &[u8]) {
     }
     let letter = part[0];
     match letter {
-        b'w' => given(part),
+        b'w' => given(&part[1..]),
         b'a' => again(&part[1..]),
         _ => say::text(b"?"),
     }
@@ -40,29 +42,29 @@ fn answer(a: Refusal) {
     say::number(a.line as u64);
 }
 
-fn given(part: &[u8]) {
-    if part.len() < 5 {
+fn given(fields: &[u8]) {
+    if fields.len() < 5 {
         return;
     }
     let mut size = [0u8; 2];
-    hex::bytes(&part[1..5], &mut size);
-    let stop = vectors::next_of(b' ', part, 5);
-    if stop < part.len() {
+    hex::bytes(&fields[0..4], &mut size);
+    let stop = vectors::next_of(b'|', fields, 5);
+    if stop < fields.len() {
         let next = stop + 1;
         asked(
             little::number(&[size[1], size[0] % 16], 0, 2) as usize,
-            &part[5..stop],
-            &part[next..],
+            &fields[5..stop],
+            &fields[next..],
         );
     }
 }
 
-fn asked(room: usize, text_digits: &[u8], file_digits: &[u8]) {
+fn asked(room: usize, text_field: &[u8], file_field: &[u8]) {
     let mut text = [0u8; 4096];
     let mut file = [0u8; 8192];
     let mut out = [b'~'; 4096];
-    let n = hex::bytes(text_digits, &mut text);
-    let m = hex::bytes(file_digits, &mut file);
+    let n = plain::bytes(text_field, &mut text);
+    let m = hex::bytes(file_field, &mut file);
     if room <= 4096 {
         written(&text[0..n], &file[0..m], &mut out[0..room]);
     }
@@ -74,10 +76,10 @@ fn written(text: &[u8], file: &[u8], out: &mut [u8]) {
 }
 
 // A text of at most 16,384 bytes.
-fn again(digits: &[u8]) {
+fn again(field: &[u8]) {
     let mut text = [0u8; 16384];
     let mut file = [0u8; 294912];
-    let n = hex::bytes(digits, &mut text);
+    let n = plain::bytes(field, &mut text);
     let a = reader::reading::read(&text[0..n], &mut file);
     if a.number != Refusal::DONE {
         refused(a);

@@ -1,0 +1,4 @@
+pub mod Next
+pub mod Hex
+pub mod Plain
+pub mod Examples
