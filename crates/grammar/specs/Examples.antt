@@ -1,4 +1,4 @@
--- Worked examples of the rules, each computed from the definition.
+-- Worked examples of the rules, each computed from the definition. The starred ones stand in crates/verdict, with those on checking.
 use mathlib.Core.Path.{_≡_, refl}
 use mathlib.Core.List.{[], _∷_}
 use Rattle.text.specs.Text.{bytes}
@@ -15,36 +15,16 @@ use Rattle.grammar.specs.Engine.{get-key, expect-key, expect-keyword, ex
 use Rattle.grammar.specs.Turns.{without, actFor, perform, peek-key, step, turn, turns}
 use Rattle.grammar.specs.Reading.{records, refusal-of, readAhead, reading}
 
--- the starred examples of the rules on reading
-pub record Starred : Type 0 where
-  pub empty-text : reading (bytes "") ≡ refusal-of (refusal 4 0 1)
-  pub nothing : reading (bytes "END LIBRARY") ≡ records []
-  pub bad-after : reading (bytes "END LIBRARY @") ≡ refusal-of (refusal 3 12 1)
-  pub bad-later : reading (bytes "END LIBRARY x @") ≡ records []
-  pub open-string : reading (bytes "END LIBRARY \"a") ≡ records []
-  pub no-semicolon : reading (bytes "END LIBRARY;") ≡ refusal-of (refusal 5 12 1)
-  pub version-5-8 : reading (bytes "VERSION 5.8 ; END LIBRARY") ≡ records (made 1 0 0 library 0 0 5800000 0 ∷ [])
-  pub version-5-9 : reading (bytes "VERSION 5.9 ; END LIBRARY") ≡ refusal-of (refusal 6 17 1)
-  pub no-numeral : reading (bytes "VERSION - ;") ≡ refusal-of (refusal 9 11 1)
-  pub three-bytes : reading (bytes "BUSBITCHARS \"[]x\" ;") ≡ refusal-of (refusal 6 19 1)
-  pub sizeless : reading (bytes "SITE s CLASS CORE ; END s END LIBRARY") ≡ refusal-of (refusal 10 29 1)
+-- without a star: two bytes in quotes are taken; and a version, a site without its size and a byte that starts no token are refused
+pub record Worked : Type 0 where
+  pub two-bytes : reading (bytes "BUSBITCHARS \"[]\" ; END LIBRARY") ≡ records (made 2 0 0 library 13 2 0 0 ∷ [])
+  pub no-version : reading (bytes "VERSION 5.9 ;") ≡ refusal-of (refusal 6 13 1)
+  pub no-size : reading (bytes "SITE s\nCLASS CORE ;\nEND s") ≡ refusal-of (refusal 10 25 3)
+  pub no-token : reading (bytes "UNITS\n@") ≡ refusal-of (refusal 3 6 2)
 
-pub starred : Starred
+pub worked : Worked
 unfolding classOf run answers from head screened keys values words raised upper same firstWhere wordOf isKey onOff siteClasses symmetries macroClasses directions uses shapes antennaModels antennaKeys portClasses layerOptions valuesOf placeOf codeOf next expect get-key expect-key expect-keyword expect-ident parse-number parse-enum begins parse-second empty member item items without actFor perform peek-key step turn turns readAhead reading
-starred =
-    record {
-      empty-text = refl;
-      nothing = refl;
-      bad-after = refl;
-      bad-later = refl;
-      open-string = refl;
-      no-semicolon = refl;
-      version-5-8 = refl;
-      version-5-9 = refl;
-      no-numeral = refl;
-      three-bytes = refl;
-      sizeless = refl;
-    }
+worked = record { two-bytes = refl; no-version = refl; no-size = refl; no-token = refl }
 
 -- the site of the listing
 pub listed : reading (bytes "SITE s\nCLASS CORE ;\nSIZE 1.5 BY 2 ;\nEND s\nEND LIBRARY\n")
