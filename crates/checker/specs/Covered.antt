@@ -1,5 +1,5 @@
--- What the windows so far show of a file. Here r and f give the records of the reading and of the file by their index, and m and n say how
--- many there are.
+-- Inner machinery, which nobody has to believe: what the windows so far show of a file. Here r and f give the records of the reading and
+-- of the file by their index, and m and n say how many there are.
 use Prim.Native.Nat.{ℕ, _+_, _≤_, _<_}
 use mathlib.Core.Path.{_≡_}
 use mathlib.Core.Bool.{Bool, true, false}

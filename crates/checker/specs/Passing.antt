@@ -1,4 +1,5 @@
--- What the passes over a text ensure. Here s is the text, and o a state of the reader between two turns.
+-- Inner machinery, which nobody has to believe: what the passes over a text ensure. Here s is the text, and o a state of the reader
+-- between two turns.
 use Prim.Native.Nat.{ℕ, _+_, _/_, _≤_, _<_}
 use mathlib.Core.Path.{_≡_}
 use mathlib.Core.Bool.{true}

@@ -1,4 +1,5 @@
--- What the inner functions of the checker ensure. Here f and w give the records of the file and of a window by their index.
+-- Inner machinery, which nobody has to believe: what the inner functions of the checker ensure. Here f and w give the records of the
+-- file and of a window by their index.
 use Prim.Native.Nat.{ℕ, _≤_, _<_}
 use mathlib.Core.Path.{_≡_}
 use mathlib.Core.List.{List}

@@ -1,5 +1,5 @@
--- The numeral read byte by byte, as the contracts of the inner functions cite it. That this is what `numeralOf` says is
--- proved; nothing here has to be believed.
+-- Inner machinery, which nobody has to believe: the numeral read byte by byte, as the contracts of the inner functions cite it. That this is
+-- what `numeralOf` says is proved.
 use Prim.Native.Nat.{ℕ, zero, suc, _+_, _-_, _*_, _^_}
 use mathlib.Core.Bool.{Bool, false, cond, _&&_}
 use mathlib.Core.List.{List, [], _∷_}

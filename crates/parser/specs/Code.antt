@@ -1,4 +1,6 @@
--- What the code's values stand for in the definition.
+-- Inner machinery, which nobody has to believe: what the code's values stand for in the definition.
+-- The images `asTaken`, `asNumber`, `asWord`, `asX`, `asXY`, `asCode`, `asFirst` and `asRec` forget nothing of an answer: a token is read back
+-- from `tokOf` (kind, start, stop and line stand in it), and a refusal from `refuse`. So a contract that equates one settles the answer.
 use Prim.Native.Nat.{ℕ, _-_}
 use mathlib.Core.Bool.{cond}
 use mathlib.Core.List.{List, [], map}

@@ -1,4 +1,4 @@
--- What is kept of an open block: the name that ends it, and what it lacks.
+-- Inner machinery, which nobody has to believe: what is kept of an open block, the name that ends it and what it lacks.
 use Prim.Native.Nat.{ℕ, zero, suc}
 use mathlib.Core.Bool.{Bool, cond}
 use mathlib.Core.List.{List, [], _∷_, _++_}

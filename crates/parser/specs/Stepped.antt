@@ -1,4 +1,6 @@
--- What the code's steps stand for in the definition.
+-- Inner machinery, which nobody has to believe: what the code's steps stand for in the definition.
+-- The images `asStep` and `asNamed` forget nothing of an answer (the entry of a record has the record itself), and `asPeeked` forgets nothing
+-- where it is equated for every k.
 use Prim.Native.Nat.{ℕ}
 use mathlib.Core.Bool.{cond}
 use mathlib.Core.List.{List, [], _∷_}

@@ -1,4 +1,6 @@
--- What the code's state stands for: the open blocks, the innermost first.
+-- Inner machinery, which nobody has to believe: what the code's state stands for, the open blocks, the innermost first.
+-- The image `stateOf` forgets the token held, which contracts name beside it, every field that belongs to no open block, and where a
+-- block's name stands (its bytes alone count). A contract that equates it leaves these open.
 use Prim.Native.Nat.{ℕ}
 use mathlib.Core.Bool.{Bool, true, false, cond, _||_}
 use mathlib.Core.List.{List, [], _∷_, map}

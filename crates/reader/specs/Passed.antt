@@ -1,4 +1,5 @@
--- What a pass over the turns does: the reading from a state on, and the records stored on the way.
+-- Inner machinery, which nobody has to believe: what a pass over the turns does, the reading from a state on and the records stored on the way.
+-- `Begins` and `Passes` settle the counts, the refusals and the file. Of a state that they answer they say only what is read from it on.
 use Prim.Native.Nat.{ℕ, suc, _+_, _≤_}
 use mathlib.Core.Path.{_≡_}
 use mathlib.Core.List.{List, [], _∷_, _++_}

@@ -1,4 +1,5 @@
--- What a step does to the open blocks of the code's state.
+-- Inner machinery, which nobody has to believe: what a step does to the open blocks of the code's state. Like `stateOf`, it leaves open what
+-- no open block has.
 use Prim.Native.Nat.{ℕ}
 use mathlib.Core.List.{List, _∷_}
 use Rattle.lexer.specs.declared.Token.{Token}

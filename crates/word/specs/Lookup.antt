@@ -1,5 +1,5 @@
--- How a word is found by its bytes, six at a time: a word, or the beginning of one, is a node, and the next six bytes
--- lead from node to node.
+-- Inner machinery, which nobody has to believe: how a word is found by its bytes, six at a time. A word, or the beginning of one, is a
+-- node, and the next six bytes lead from node to node.
 use Prim.Native.Nat.{ℕ, suc, _+_, _-_, _*_, _/_}
 use Prim.Native.String.{String}
 use mathlib.Core.Bool.{Bool, cond}

@@ -1,4 +1,5 @@
--- What the pen has written: of records from a state on, all but the ends of the blocks that are open after them.
+-- Inner machinery, which nobody has to believe: what the pen has written, of records from a state on all but the ends of the blocks that are
+-- open after them.
 use Prim.Native.Nat.{ℕ}
 use mathlib.Core.Path.{_≡_}
 use mathlib.Core.Bool.{Bool, true, _&&_}

@@ -1,4 +1,5 @@
--- What a function that writes does: it answers the place after its bytes, and lays them where there is room for all of them.
+-- Inner machinery, which nobody has to believe: what a function that writes does. It answers the place after its bytes, and lays them where
+-- there is room for all of them.
 use Prim.Native.Nat.{ℕ, _+_, _-_, _^_, _≤_, min}
 use mathlib.Core.Path.{_≡_}
 use mathlib.Core.List.{List}

@@ -1,4 +1,4 @@
--- The tokens of a record's statement.
+-- Inner machinery, which nobody has to believe: the tokens of a record's statement.
 use Prim.Native.Nat.{ℕ}
 use Prim.Native.String.{String}
 use mathlib.Core.Bool.{Bool, not, _||_}

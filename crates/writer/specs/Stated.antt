@@ -1,4 +1,4 @@
--- What the functions for the blocks write.
+-- Inner machinery, which nobody has to believe: what the functions for the blocks write.
 use Prim.Native.Nat.{ℕ}
 use mathlib.Core.Path.{_≡_}
 use mathlib.Core.List.{List}

@@ -1,0 +1,6 @@
+pub mod Laws
+pub mod Border
+pub mod Calls
+pub mod Parts
+pub mod Records
+pub mod Images
