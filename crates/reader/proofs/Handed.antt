@@ -4,17 +4,18 @@ use mathlib.Core.Path.{_≡_, refl, sym, ap, _∙_}
 use mathlib.Core.List.{List, [], _∷_, _++_, map}
 use native.Mathlib.Omega.{arith}
 use borrow.Author.Tests.{le-leb, lt-leb, lt-ltb, ne-eqb}
-use lib.ListN.{length}
+use lib.ListN.{length, drop}
 use lib.Seq.{sets, length-sets}
 use Rattle.refusal.specs.declared.Refusal.{Refusal}
 use Rattle.refusal.specs.Table.{noToken, done, recordRoom}
 use Rattle.refusal.specs.Table.{refused as refusal}
 use Rattle.rowfile.specs.Rows.{joined}
-use Rattle.rowfile.proofs.Stored.{sets-append}
+use Rattle.rowfile.proofs.Stored.{sets-append, sets-front}
 use Rattle.record.specs.declared.Record.{Record}
 use Rattle.record.specs.Bytes.{encoded}
 use Rattle.file.specs.File.{encodedAll, stored}
 use Rattle.file.proofs.Laws.{stored-sets}
+use Rattle.file.proofs.Held.{all-length}
 use Rattle.record.proofs.Laws.{encoded-length}
 use Rattle.lexer.specs.declared.Token.{Token}
 use Rattle.lexer.specs.declared.Lexed.{Lexed}
@@ -53,6 +54,10 @@ laid-all (r ∷ rs) n file h =
     ap (storedAll (n + 1) rs) e
     ∙ (laid-all rs (n + 1) (sets file (36 * n) (encoded r)) (rw l (omega arith))
     ∙ (ap (λ q. sets (sets file (36 * n) (encoded r)) q (encodedAll rs)) p ∙ sym (sets-append (encoded r) (encodedAll rs) file (36 * n))))
+
+-- from the front of a file that has room for them: their bytes, and the rest of the file
+fronted : (rs : List Record) (file : List ℕ) → length rs ≤ room file → storedAll 0 rs file ≡ encodedAll rs ++ drop (length (encodedAll rs)) file
+fronted rs file h = laid-all rs 0 file (omega arith) ∙ sets-front (encodedAll rs) file (omega (arith, all-length rs))
 
 -- THE ANSWER
 
@@ -102,7 +107,7 @@ module _ (s : List ℕ) (l : length s ≤ limit) (st : State) where
     by-filling n h k exit y q =
         let o : Passes s st all nowhere out (P.Over n) = rw h at p in
         let b = le-leb (length (o .0)) (room file) (omega (arith, o .2)) in
-        rw (o .1) (rw (b, o .2), rw b (stored-by file exit y q (o .0) (o .1) ∙ laid-all (o .0) 0 file (omega (arith, o .2))))
+        rw (o .1) (rw (b, o .2), rw b (stored-by file exit y q (o .0) (o .1) ∙ fronted (o .0) file (omega (arith, o .2))))
 
 -- THE START
 

@@ -1,10 +1,9 @@
 -- WHAT `read` ANSWERS for a reading, and what then stands in the record buffer that it was lent.
 use Prim.Native.Nat.{ℕ}
 use mathlib.Core.Bool.{cond}
-use mathlib.Core.List.{List}
+use mathlib.Core.List.{List, _++_}
 use lib.Dec.{leb}
-use lib.ListN.{length}
-use lib.Seq.{sets}
+use lib.ListN.{length, drop}
 use Rattle.refusal.specs.declared.Refusal.{Refusal}
 use Rattle.refusal.specs.Table.{refused, done, recordRoom}
 use Rattle.file.specs.File.{count, encodedAll}
@@ -20,7 +19,7 @@ abbrev pub answered : ℕ → Reading → Refusal
 answered n (records rs) = cond (leb (length rs) n) (refused done (length rs) 0) (refused recordRoom (length rs) 0)
 answered n (refusal-of r) = r
 
--- The buffer: records that fit are laid over its front, and all of its other bytes are kept. It is as it was where there is a refusal.
+-- The buffer afterwards: the bytes of records that fit, from the front, and the rest kept; on every refusal as it was.
 abbrev pub filled : List ℕ → Reading → List ℕ
-filled file (records rs) = cond (leb (length rs) (room file)) (sets file 0 (encodedAll rs)) file
+filled file (records rs) = cond (leb (length rs) (room file)) (encodedAll rs ++ drop (length (encodedAll rs)) file) file
 filled file (refusal-of r) = file
