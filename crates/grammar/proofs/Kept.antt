@@ -15,7 +15,7 @@ use Rattle.numeral.specs.Numeral.{numeralOf}
 use Rattle.word.specs.Words.{same, wordOf, word, isKey}
 use Rattle.word.specs.Codes.{codeOf, valuesOf}
 use Rattle.word.proofs.Words.{both}
-use Rattle.grammar.specs.Tokens.{Tok, Ahead, Answer, ok, then, complain, next, take, matches, expect, bad}
+use Rattle.grammar.specs.Tokens.{Tok, Ahead, Answer, ok, then, complain, next, next-token, matches, expect, bad}
 use Rattle.grammar.specs.Grammar.{Item, key, keyword, name, own, x, y, semi, value, first, firstKey, second, string, code, ifMore, noName, among, whole}
 use Rattle.grammar.specs.Engine.{Maybe, none, some, Name, Draft, Frame, setCode, setName, setX, setY, get-name, get-key, expect-key, expect-keyword, expect-ident, valued, parse-number, parse-enum, begins, parse-second, empty, member, nameOf, insideOf, item, passed, items}
 use Rattle.grammar.specs.Second.{goesOn, secondKey}
@@ -68,12 +68,12 @@ module _ {A M : Type 0} where
   next-taken t [] = refl
   next-taken t (n ∷ r) = ok-cond _ (eqb (n .kind) bad) _ _ refl (refl, here)
 
-  pub take-taken : (a : Ahead A M) → Ok (Taken a) (take a)
+  pub take-taken : (a : Ahead A M) → Ok (Taken a) (next-token a)
   take-taken a = next-taken (a .held) (a .rest)
 
   pub expect-taken : (k : ℕ) (a : Ahead A M) → Ok (Taken a) (expect k a)
   unfolding expect
-  expect-taken k a = ok-then (Taken a) (Taken a) (take a) _ (take-taken a) (λ t b h. ok-cond (Taken a) (eqb (t .kind) k) _ _ h refl)
+  expect-taken k a = ok-then (Taken a) (Taken a) (next-token a) _ (take-taken a) (λ t b h. ok-cond (Taken a) (eqb (t .kind) k) _ _ h refl)
 
   -- a taker that looks at the token it takes
   looks : {B : Type 0} (k : ℕ) (a : Ahead A M) (f : Tok A M → Ahead A M → Answer A M B)

@@ -14,7 +14,7 @@ use Rattle.numeral.specs.Numeral.{numeralOf}
 use Rattle.word.specs.Words.{same, wordOf, word, isKey}
 use Rattle.word.specs.Codes.{codeOf, valuesOf}
 use Rattle.word.proofs.Words.{both}
-use Rattle.grammar.specs.Tokens.{Tok, Ahead, Answer, ok, refused, then, next, take, matches, expect, bad}
+use Rattle.grammar.specs.Tokens.{Tok, Ahead, Answer, ok, refused, then, next, next-token, matches, expect, bad}
 use Rattle.grammar.specs.Grammar.{Block, Item, key, keyword, name, own, x, y, semi, value, first, firstKey, second, string, code, ifMore, noName, among, whole, Move, stay, Act, statement, close, refuse, back, upTo54, Row, Body, keyed, worded, options, parts, counted}
 use Rattle.grammar.specs.Table.{body}
 use Rattle.grammar.specs.Engine.{Rec, Draft, Frame, blank, get-name, get-key, expect-key, expect-keyword, expect-ident, valued, parse-number, parse-enum, begins, parse-second, empty, member, item, passed, items}
@@ -69,12 +69,12 @@ module _ {A M : Type 0} (R : ℕ → M → Type 0) where
       go false p q = (q refl, e .1)
 
   module _ (a : Ahead A M) (h : Marked a) where
-    take-sound : Sound (take a)
+    take-sound : Sound (next-token a)
     take-sound = next-sound (a .held) (a .rest) (h .0) (h .1)
 
     expect-sound : (k : ℕ) → Sound (expect k a)
     unfolding expect
-    expect-sound k = sound-then (take a) _ take-sound (λ t b g. sound-cond (eqb (t .kind) k) _ _ g (g .0 4 refl))
+    expect-sound k = sound-then (next-token a) _ take-sound (λ t b g. sound-cond (eqb (t .kind) k) _ _ g (g .0 4 refl))
 
     key-sound : Sound (get-key a)
     unfolding get-key
@@ -192,12 +192,12 @@ module _ {A M : Type 0} (R : ℕ → M → Type 0) where
       unfolding step peek-key fit-body all-numbered numbered
       step-stepped (keyed n rows) s = let z = both (complains n) (fit-rows free rows) s in let w = wordOf (a .held .bytes) in
           stepped-cond (matches Kind.name a) _ (halts 4 (a .held .mark))
-          (stepped-cond (isKey w) (perform v f a (take a) (a .held .mark) (actFor n w rows)) (halts 5 (a .held .mark))
-          (perform-stepped (take a) (take-sound a h) (a .held .mark) (h .0) (actFor n w rows) (act-fits free n w rows (z .0) (z .1))) (h .0 5 refl)) (h .0 4 refl)
+          (stepped-cond (isKey w) (perform v f a (next-token a) (a .held .mark) (actFor n w rows)) (halts 5 (a .held .mark))
+          (perform-stepped (next-token a) (take-sound a h) (a .held .mark) (h .0) (actFor n w rows) (act-fits free n w rows (z .0) (z .1))) (h .0 5 refl)) (h .0 4 refl)
       step-stepped (worded rows) s = judged-stepped rows s (get-name a) (expect-sound a h Kind.name)
       step-stepped (options rows b) s =
-          stepped-cond (matches Kind.semicolon a) (gone b (take a)) (judged v f a rows (get-name a))
-          (gone-stepped b (take a) (take-sound a h)) (judged-stepped rows s (get-name a) (expect-sound a h Kind.name))
+          stepped-cond (matches Kind.semicolon a) (gone b (next-token a)) (judged v f a rows (get-name a))
+          (gone-stepped b (next-token a) (take-sound a h)) (judged-stepped rows s (get-name a) (expect-sound a h Kind.name))
       step-stepped (parts k is) s = part-stepped (matches Kind.semicolon a) k is (whole 6 ∷ semi ∷ []) (both (eager is) (all-numbered is) s .1) refl
       step-stepped (counted k is) s = part-stepped (empty (f .lacks)) k is (semi ∷ []) (both (eager is) (all-numbered is) s .1) refl
 

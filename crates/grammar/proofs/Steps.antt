@@ -7,7 +7,7 @@ use lib.Dec.{leb, eqb}
 use Rattle.lexer.specs.Kinds as Kind
 use Rattle.word.specs.Words.{wordOf, word, isKey}
 use Rattle.word.proofs.Words.{both}
-use Rattle.grammar.specs.Tokens.{Tok, Ahead, Answer, ok, refused, then, take, matches}
+use Rattle.grammar.specs.Tokens.{Tok, Ahead, Answer, ok, refused, then, next-token, matches}
 use Rattle.grammar.specs.Grammar.{Block, Item, semi, whole, Move, stay, Act, statement, close, refuse, back, upTo54, Row, Body, keyed, worded, options, parts, counted}
 use Rattle.grammar.specs.Engine.{Rec, Draft, Frame, blank, get-name, items, empty}
 use Rattle.grammar.specs.Turns.{Step, gives, ends, goes, backs, halts, given, ended, gone, actFor, perform, peek-key, judged, step}
@@ -115,11 +115,11 @@ module _ {A M : Type 0} (fit : ℕ → List Item → Bool) (P : Rec A → Type 0
   unfolding step peek-key fit-body
   step-stepped (keyed n rows) s = let z = both (complains n) (fit-rows fit rows) s in let w = wordOf (a .held .bytes) in
       stepped-cond P f a (matches Kind.name a) _ (halts 4 (a .held .mark))
-      (stepped-cond P f a (isKey w) (perform v f a (take a) (a .held .mark) (actFor n w rows)) (halts 5 (a .held .mark))
-      (perform-stepped (take a) (take-taken a) (a .held .mark) (actFor n w rows) (act-fits fit n w rows (z .0) (z .1))) refl) refl
+      (stepped-cond P f a (isKey w) (perform v f a (next-token a) (a .held .mark) (actFor n w rows)) (halts 5 (a .held .mark))
+      (perform-stepped (next-token a) (take-taken a) (a .held .mark) (actFor n w rows) (act-fits fit n w rows (z .0) (z .1))) refl) refl
   step-stepped (worded rows) s = judged-stepped rows s (get-name a) (expect-taken Kind.name a)
   step-stepped (options rows b) s =
-      stepped-cond P f a (matches Kind.semicolon a) (gone b (take a)) (judged v f a rows (get-name a))
-      (gone-stepped P f a b (take a) (take-taken a)) (judged-stepped rows s (get-name a) (expect-taken Kind.name a))
+      stepped-cond P f a (matches Kind.semicolon a) (gone b (next-token a)) (judged v f a rows (get-name a))
+      (gone-stepped P f a b (next-token a) (take-taken a)) (judged-stepped rows s (get-name a) (expect-taken Kind.name a))
   step-stepped (parts k is) s = part-stepped (matches Kind.semicolon a) (items 0 f (whole 6 ∷ semi ∷ []) (blank 0 f a) a) (whole-kept 6 refl f (blank 0 f a) a) k is s
   step-stepped (counted k is) s = part-stepped (empty (f .lacks)) (items 0 f (semi ∷ []) (blank 0 f a) a) (semi-kept f (blank 0 f a) a) k is s

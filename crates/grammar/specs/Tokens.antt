@@ -42,8 +42,8 @@ unfoldable pub next : {A M : Type 0} → Tok A M → List (Tok A M) → Answer A
 next t [] = refused 4 (t .mark)
 next t (n ∷ r) = cond (eqb (n .kind) bad) (refused 3 (n .mark)) (ok t (record { held = n; rest = r }))
 
-abbrev pub take : {A M : Type 0} → Ahead A M → Answer A M (Tok A M)
-take a = next (a .held) (a .rest)
+abbrev pub next-token : {A M : Type 0} → Ahead A M → Answer A M (Tok A M)
+next-token a = next (a .held) (a .rest)
 
 -- whether the token held is of a kind
 abbrev pub matches : {A M : Type 0} → ℕ → Ahead A M → Bool
@@ -51,4 +51,4 @@ matches k a = eqb (a .held .kind) k
 
 -- takes a token of a kind; another is 4
 unfoldable pub expect : {A M : Type 0} → ℕ → Ahead A M → Answer A M (Tok A M)
-expect k a = then (take a) (λ t b. cond (eqb (t .kind) k) (ok t b) (complain 4 b))
+expect k a = then (next-token a) (λ t b. cond (eqb (t .kind) k) (ok t b) (complain 4 b))

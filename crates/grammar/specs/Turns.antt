@@ -5,7 +5,7 @@ use mathlib.Core.List.{List, [], _∷_}
 use lib.Dec.{leb, eqb}
 use Rattle.lexer.specs.Kinds as Kind
 use Rattle.word.specs.Words.{wordOf, word, isKey}
-use Rattle.grammar.specs.Tokens.{Tok, Ahead, Answer, ok, refused, then, take, matches}
+use Rattle.grammar.specs.Tokens.{Tok, Ahead, Answer, ok, refused, then, next-token, matches}
 use Rattle.grammar.specs.Grammar.{Block, semi, whole, Move, stay, enter, named, version, Act, statement, close, refuse, back, upTo54, Row, Body, keyed, worded, options, parts, counted}
 use Rattle.grammar.specs.Engine.{Maybe, none, some, Name, Rec, Draft, Frame, blank, get-name, items, empty}
 
@@ -57,9 +57,9 @@ judged v f a rows (ok t b) = perform v f a (ok t b) (b .held .mark) (actFor 5 (w
 judged v f a rows (refused n p) = halts n p
 
 unfoldable pub step : {A M : Type 0} → ℕ → Frame A → Ahead A M → Body → Step A M (Rec A)
-step v f a (keyed n rows) = peek-key a (λ k. perform v f a (take a) (a .held .mark) (actFor n k rows))
+step v f a (keyed n rows) = peek-key a (λ k. perform v f a (next-token a) (a .held .mark) (actFor n k rows))
 step v f a (worded rows) = judged v f a rows (get-name a)
-step v f a (options rows b) = cond (matches Kind.semicolon a) (gone b (take a)) (judged v f a rows (get-name a))
+step v f a (options rows b) = cond (matches Kind.semicolon a) (gone b (next-token a)) (judged v f a rows (get-name a))
 step v f a (parts k is) =
     cond (matches Kind.semicolon a) (ended (items 0 f (whole 6 ∷ semi ∷ []) (blank 0 f a) a)) (given stay (items 0 f is (blank k f a) a))
 step v f a (counted k is) =

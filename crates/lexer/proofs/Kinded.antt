@@ -11,7 +11,7 @@ use Rattle.lexer.specs.declared.Lexed.the-variants.{Found, End, Bad}
 use Rattle.lexer.specs.Bytes.{classOf, inComment}
 use Rattle.lexer.specs.Run.{past}
 use Rattle.lexer.specs.Kinds.{name, stringLiteral}
-use Rattle.lexer.specs.Lex.{from, head, lexFrom}
+use Rattle.lexer.specs.Lex.{from, firstAnswer, lexFrom}
 use Rattle.lexer.proofs.Laws.{At, none, at-letter, at-space, at-digit, at-semicolon, at-newline, at-quote, at-hash, at-other}
 use Rattle.lexer.proofs.First.{everywhere}
 
@@ -21,7 +21,7 @@ Kinded (End n) = Unit {0}
 Kinded (Bad i n) = Unit {0}
 
 said : (s : List ℕ) (i n : ℕ) (r : Lexed) (rs : List Lexed) → from s i n ≡ r ∷ rs → Kinded r → Kinded (lexFrom s i n)
-unfolding head
+unfolding firstAnswer
 said s i n r rs q k = rw q k
 
 via : (s : List ℕ) (i n j m : ℕ) → from s i n ≡ from s j m → Kinded (lexFrom s j m) → Kinded (lexFrom s i n)

@@ -13,7 +13,7 @@ use Rattle.lexer.specs.declared.Lexed.the-variants.{End, Bad}
 use Rattle.lexer.specs.Bytes.{classOf, inName, inNumber, inString, inComment}
 use Rattle.lexer.specs.Run.{run, past}
 use Rattle.lexer.specs.Kinds.{name, number, semicolon, stringLiteral}
-use Rattle.lexer.specs.Lex.{answers, from, head, lexFrom, nextLine, token}
+use Rattle.lexer.specs.Lex.{answers, from, firstAnswer, lexFrom, nextLine, token}
 use Rattle.lexer.proofs.Runs.{step}
 
 -- to pass over m bytes is to start after them
@@ -77,5 +77,5 @@ at-other {s} {i} a = rw (step s i (a .inside)) (rw (a .class, answers))
 
 -- the first answer
 pub first : (s : List ℕ) (i n : ℕ) (r : Lexed) (rs : List Lexed) → from s i n ≡ r ∷ rs → r ≡ lexFrom s i n
-unfolding head
-first s i n r rs q = sym (ap head q)
+unfolding firstAnswer
+first s i n r rs q = sym (ap firstAnswer q)

@@ -8,7 +8,7 @@ use Rattle.text.specs.Text.{bytes}
 use Rattle.lexer.specs.Bytes.{classOf}
 use Rattle.lexer.specs.Run.{run}
 use Rattle.lexer.specs.Kinds.{name, number, semicolon, stringLiteral}
-use Rattle.lexer.specs.Lex.{answers, from, head, lexFrom, token}
+use Rattle.lexer.specs.Lex.{answers, from, firstAnswer, lexFrom, token}
 use Rattle.lexer.specs.Numbers.{lexNumbers}
 use Rattle.lexer.specs.Screen.{screened}
 use Rattle.lexer.specs.Answer.{firstToken, numbers}
@@ -48,28 +48,28 @@ comments = refl
 
 -- a byte above 127 is refused at its place, wherever the token is looked for from
 high-byte : firstToken (bytes "A \u{80}") 0 ≡ Answer.Refused (refused notAscii 2 0)
-unfolding firstToken screened from answers classOf run head
+unfolding firstToken screened from answers classOf run firstAnswer
 high-byte = refl
 
 -- a byte that starts no token: lines count from the place given
 first-bad : numbers (bytes "a\n\n @") (firstToken (bytes "a\n\n @") 2) ≡ record { refusal = noToken; place = 4; line = 2; kind = 0; start = 0; stop = 0 }
-unfolding firstToken screened from answers classOf run head
+unfolding firstToken screened from answers classOf run firstAnswer
 first-bad = refl
 
 first-found : numbers (bytes "a b") (firstToken (bytes "a b") 1) ≡ record { refusal = 0; place = 0; line = 0; kind = name; start = 2; stop = 3 }
-unfolding firstToken screened from answers classOf run head
+unfolding firstToken screened from answers classOf run firstAnswer
 first-found = refl
 
 -- a place past the text counts as its end
 beyond : numbers (bytes "a b") (firstToken (bytes "a b") 9) ≡ record { refusal = 0; place = 0; line = 0; kind = 0; start = 3; stop = 3 }
-unfolding firstToken screened from answers classOf run head
+unfolding firstToken screened from answers classOf run firstAnswer
 beyond = refl
 
 -- what is found next has its line
 next-found : lexNumbers (bytes "\n b") (lexFrom (bytes "\n b") 0 1) ≡ record { refusal = 0; place = 0; line = 2; kind = name; start = 2; stop = 3 }
-unfolding from answers classOf run head
+unfolding from answers classOf run firstAnswer
 next-found = refl
 
 next-end : lexNumbers (bytes "\n ") (lexFrom (bytes "\n ") 0 1) ≡ record { refusal = 0; place = 0; line = 2; kind = 0; start = 2; stop = 2 }
-unfolding from answers classOf run head
+unfolding from answers classOf run firstAnswer
 next-end = refl

@@ -41,13 +41,13 @@ unfoldable pub from : List ℕ → ℕ → ℕ → List Lexed
 from s at n = answers 0 (drop at s) at n
 
 -- the first of a list of answers, which always has one
-unfoldable pub head : List Lexed → Lexed
-head [] = End 0
-head (r ∷ rs) = r
+unfoldable pub firstAnswer : List Lexed → Lexed
+firstAnswer [] = End 0
+firstAnswer (r ∷ rs) = r
 
 -- the first answer of s from the place `at` and the line n on
 abbrev pub lexFrom : List ℕ → ℕ → ℕ → Lexed
-lexFrom s at n = head (from s at n)
+lexFrom s at n = firstAnswer (from s at n)
 
 -- the answers that follow an answer: from the token's end on, and none after the end or a bad byte
 abbrev pub rest : List ℕ → Lexed → List Lexed

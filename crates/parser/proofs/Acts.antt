@@ -12,7 +12,7 @@ use Rattle.word.specs.Words.{keys, values, words, raised, upper, same, firstWhe
 use Rattle.word.proofs.Steps.{Nested, Apart, apart}
 use Rattle.parser.specs.declared.shared.Peeked.{Peeked}
 use Rattle.parser.specs.declared.shared.Peeked.the-variants as K
-use Rattle.grammar.specs.Tokens.{ok, take}
+use Rattle.grammar.specs.Tokens.{ok, next-token}
 use Rattle.grammar.specs.Grammar.{Library, Units, Site, Macro, Pin, Port, Obs, Options, Layer, Act, refuse, Row, Body, keyed, worded, options, parts, counted}
 use Rattle.grammar.specs.Table.{body}
 use Rattle.grammar.specs.Engine.{Rec, Frame, get-name}
@@ -63,11 +63,11 @@ act-none n w rows ws q h = sym (by-words n w rows ∙ rw q (apart-at n w ws rows
 
 module _ (s : List ℕ) (v : ℕ) (f : Frame ℕ) (t : Token) (n : ℕ) (rows : List Row) where
   abbrev looking : ℕ → Step ℕ Mark (Rec ℕ)
-  looking k = perform v f (aheadOf s t) (take (aheadOf s t)) (record { place = t .stop; line = t .line }) (actFor n k rows)
+  looking k = perform v f (aheadOf s t) (next-token (aheadOf s t)) (record { place = t .stop; line = t .line }) (actFor n k rows)
 
   -- what the act does
   abbrev pub doing : Act → Step ℕ Mark Entry
-  doing act = filedStep (perform v f (aheadOf s t) (take (aheadOf s t)) (record { place = t .stop; line = t .line }) act)
+  doing act = filedStep (perform v f (aheadOf s t) (next-token (aheadOf s t)) (record { place = t .stop; line = t .line }) act)
 
   module _ (ws : List ℕ) (q : wordsIn rows ≡ ws) (p : Peeked) (h : (k : ℕ → Step ℕ Mark (Rec ℕ)) → asPeeked p k ≡ peek-key (aheadOf s t) k) where
     pub looked : (w u : ℕ) → p ≡ K.Is w → w ≡ u → doing (actAt n u ws rows) ≡ stepIn s v f t (keyed n rows)

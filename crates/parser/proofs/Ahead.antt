@@ -13,7 +13,7 @@ use Rattle.lexer.specs.Lex.{from, rest, lexFrom}
 use Rattle.lexer.proofs.Whole.{unrolls}
 use Rattle.lexer.proofs.Kinded.{kinded}
 use Rattle.grammar.specs.Tokens.{refused, next}
-use Rattle.grammar.specs.Tokens.{take as taking}
+use Rattle.grammar.specs.Tokens.{next-token}
 use Rattle.grammar.specs.Reading.{tok}
 use Rattle.parser.specs.Code.{restOf, aheadOf, heldNext, asTaken}
 
@@ -25,13 +25,13 @@ pub end-bytes : (s : List ℕ) → take (length s - length s) (drop (length s) s
 end-bytes s = let z : length s - length s ≡ 0 = omega arith in rw z
 
 -- the end is not taken
-pub at-end : (s : List ℕ) (h : Token) → h .kind ≡ 0 → taking (aheadOf s h) ≡ refused 4 (record { place = h .stop; line = h .line })
+pub at-end : (s : List ℕ) (h : Token) → h .kind ≡ 0 → next-token (aheadOf s h) ≡ refused 4 (record { place = h .stop; line = h .line })
 unfolding next restOf
 at-end s h z = rw (eq-eqb (h .kind) 0 z)
 
 -- any other token is, and the lexer's answer from its stop on is held next
 module _ (s : List ℕ) (h : Token) (z : h .kind ≡ 0 → ⊥) where
-  taken : (r : Lexed) → r ≡ lexFrom s (h .stop) (h .line) → asTaken s h (heldNext s r) ≡ taking (aheadOf s h)
+  taken : (r : Lexed) → r ≡ lexFrom s (h .stop) (h .line) → asTaken s h (heldNext s r) ≡ next-token (aheadOf s h)
   unfolding next restOf
   taken (Found t) q =
       let k : (1 ≤ t .kind) × (t .kind ≤ 4) = rw (← q) at (kinded s (h .stop) (h .line)) in
@@ -39,7 +39,7 @@ module _ (s : List ℕ) (h : Token) (z : h .kind ≡ 0 → ⊥) where
   taken (End n) q = sym (rw (ne-eqb (h .kind) 0 z, opened s (h .stop) (h .line) (End n) q, end-bytes s))
   taken (Bad i n) q = sym (rw (ne-eqb (h .kind) 0 z, opened s (h .stop) (h .line) (Bad i n) q))
 
-  pub not-end : asTaken s h (heldNext s (lexFrom s (h .stop) (h .line))) ≡ taking (aheadOf s h)
+  pub not-end : asTaken s h (heldNext s (lexFrom s (h .stop) (h .line))) ≡ next-token (aheadOf s h)
   not-end = taken (lexFrom s (h .stop) (h .line)) refl
 
 -- the bytes of a span that reaches outside the text

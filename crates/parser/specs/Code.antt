@@ -22,7 +22,7 @@ use Rattle.parser.specs.declared.take.Word.the-variants as W
 use Rattle.parser.specs.declared.statement.Point.{Point}
 use Rattle.parser.specs.declared.statement.Point.the-variants as P
 use Rattle.grammar.specs.Tokens.{Tok, Ahead, Answer, ok, refused, then, end}
-use Rattle.grammar.specs.Tokens.{take as taking}
+use Rattle.grammar.specs.Tokens.{next-token}
 use Rattle.grammar.specs.Grammar.{Item}
 use Rattle.grammar.specs.Engine.{Rec, Frame, Draft, setX, setY, setCode, setFirst, items}
 use Rattle.grammar.specs.Reading.{Mark, tok}
@@ -93,7 +93,7 @@ whyWord (W.Refused r) = r
 
 -- a statement whose word is held: the word is taken, then the items
 abbrev pub afterWord : List Item → Frame ℕ → Draft ℕ → Ahead ℕ Mark → Answer ℕ Mark (Draft ℕ)
-afterWord is f d a = then (taking a) (λ t b. items 0 f is d b)
+afterWord is f d a = then (next-token a) (λ t b. items 0 f is d b)
 
 -- what the statements' answers set in the draft d
 abbrev pub asX : List ℕ → Draft ℕ → Number → Answer ℕ Mark (Draft ℕ)

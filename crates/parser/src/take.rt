@@ -4,7 +4,7 @@ ghost use mathlib.Core.Path.{_≡_};
 ghost use Prim.Native.Nat.{_-_};
 ghost use lib.ListN.{take, drop};
 ghost use Rattle.lexer.specs.Lex.{lexFrom};
-ghost use Rattle.grammar.specs.Tokens.{expect, take as taking};
+ghost use Rattle.grammar.specs.Tokens.{expect, next-token};
 ghost use Rattle.grammar.specs.Engine.{get-name, get-key, expect-key, expect-keyword, expect-ident, parse-number, parse-enum};
 ghost use Rattle.parser.specs.Code.{complaint, aheadOf, heldNext, asTaken, asNumber, asWord, whyTaken};
 ghost use Rattle.parser.specs.Kept.{nameIn};
@@ -46,7 +46,7 @@ pub fn complain(number: usize, held: Token) -> Refusal
 
 // Takes the token held.
 pub fn next_token(text: &[u8], held: Token) -> Taken
-    ensures { λ r. ⌜ asTaken (now (text .entry)) held r ≡ taking (aheadOf (now (text .entry)) held) ⌝ }
+    ensures { λ r. ⌜ asTaken (now (text .entry)) held r ≡ next-token (aheadOf (now (text .entry)) held) ⌝ }
 {
     let kind = held.kind;
     if kind == 0 {

@@ -11,7 +11,7 @@ use Rattle.word.specs.Words.{wordOf, word, isKey}
 use Rattle.word.proofs.Words.{both}
 use Rattle.reader.specs.declared.state.Block.{Block}
 use Rattle.reader.specs.declared.state.Block.the-variants as B
-use Rattle.grammar.specs.Tokens.{Tok, Ahead, Answer, ok, refused, then, take, matches}
+use Rattle.grammar.specs.Tokens.{Tok, Ahead, Answer, ok, refused, then, next-token, matches}
 use Rattle.grammar.specs.Grammar as G
 use Rattle.grammar.specs.Grammar.{Item, semi, whole, Move, stay, Act, statement, close, refuse, back, upTo54, Row, Body, keyed, worded, options, parts, counted}
 use Rattle.grammar.specs.Table.{body}
@@ -115,11 +115,11 @@ module _ (g k : Bool) where
       unfolding step peek-key within-body
       step-within (keyed n rows) s = let w = wordOf (a .held .bytes) in
           within-cond (matches Kind.name a) _ (halts 4 (a .held .mark))
-          (within-cond (isKey w) (perform v f a (take a) (a .held .mark) (actFor n w rows)) (halts 5 (a .held .mark))
-          (perform-within (take a) (a .held .mark) (actFor n w rows) (act-within n w rows s)) tt) tt
+          (within-cond (isKey w) (perform v f a (next-token a) (a .held .mark) (actFor n w rows)) (halts 5 (a .held .mark))
+          (perform-within (next-token a) (a .held .mark) (actFor n w rows) (act-within n w rows s)) tt) tt
       step-within (worded rows) s = judged-within rows s (get-name a)
       step-within (options rows b) s = let z = both g (within-rows rows) s in
-          within-cond (matches Kind.semicolon a) (gone b (take a)) (judged v f a rows (get-name a)) (gone-within b (take a) (z .0)) (judged-within rows (z .1) (get-name a))
+          within-cond (matches Kind.semicolon a) (gone b (next-token a)) (judged v f a rows (get-name a)) (gone-within b (next-token a) (z .0)) (judged-within rows (z .1) (get-name a))
       step-within (parts n is) s =
           within-cond (matches Kind.semicolon a) (ended (items 0 f (whole 6 ∷ semi ∷ []) (blank 0 f a) a)) (given stay (items 0 f is (blank n f a) a))
           (ended-within (items 0 f (whole 6 ∷ semi ∷ []) (blank 0 f a) a)) (given-within stay (items 0 f is (blank n f a) a))

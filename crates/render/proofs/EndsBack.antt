@@ -8,7 +8,7 @@ use Rattle.text.specs.Text.{bytes}
 use Rattle.lexer.specs.Kinds as Kind
 use Rattle.word.specs.Words.{wordOf, isKey}
 use Rattle.word.proofs.Words.{both}
-use Rattle.grammar.specs.Tokens.{Tok, Ahead, Answer, ok, refused, then, take, matches}
+use Rattle.grammar.specs.Tokens.{Tok, Ahead, Answer, ok, refused, then, next-token, matches}
 use Rattle.grammar.specs.Grammar.{Block, Item, semi, whole, Act, statement, close, refuse, back, upTo54, Row, Body, keyed, worded, options, parts, counted}
 use Rattle.grammar.specs.Table.{body}
 use Rattle.grammar.specs.Engine.{Maybe, none, some, Rec, Draft, Frame, blank, get-name, items}
@@ -75,7 +75,7 @@ module _ (v : ℕ) (f : Frame ℕ) (a : Ahead ℕ Mark) (us : List Said) (g : st
   keyed-ends n rows act s (some c) e i h z =
       let b = closed true rows c s e in
       rw (keyed-row v f a true rows (c .word) (close (c .items)) b (rest c (b .legible) h) n refl z)
-      (performed c (b .legible) h (λ u. u ≡ a .held) (take a) (a .held .mark) (take-back a (said Kind.name (bytes (c .word))) (rest c (b .legible) h) z (rest-start c (b .legible) h)))
+      (performed c (b .legible) h (λ u. u ≡ a .held) (next-token a) (a .held .mark) (take-back a (said Kind.name (bytes (c .word))) (rest c (b .legible) h) z (rest-start c (b .legible) h)))
 
   judged-ends : (rows : List Row) (act : Act) → legible-rows false rows ≡ true → (c : Maybe Close) → closeOf rows ≡ c → isSome c ≡ true → closes f c act ≡ true
       → standing a ≡ lastWords (f .label) c ++ us → Ends (judged v f a rows (get-name a))
@@ -113,7 +113,7 @@ last-back v w f a us i h z g = body-ends v f a us (follows-start [] us g) w (bod
 pub options-back : OptionsBack
 unfolding step
 options-back v f rows c a us e z g =
-    rw (e, semi-held a us z) (gone-goes v f a us (follows-start [] us g) c (take a) (take-back a semicolon us z (follows-start [] us g)))
+    rw (e, semi-held a us z) (gone-goes v f a us (follows-start [] us g) c (next-token a) (take-back a semicolon us z (follows-start [] us g)))
 
 -- A WORD OF THE BLOCK AROUND IS READ AS THE END OF A BLOCK WITHOUT LAST WORDS
 acts-back : (act : Act) → isBack act ≡ true → act ≡ back

@@ -50,7 +50,7 @@ Token k t = (t .kind ≡ k) × Good t
 module _ (a : Ahead ℕ Mark) (g : Every Good (all a)) where
   good-token : (k : ℕ) → Holds (Token k) (expect k a)
   unfolding expect
-  good-token k = go (Tokens.take a) (take-taken a)
+  good-token k = go (Tokens.next-token a) (take-taken a)
     where
       go : (s : Answer ℕ Mark (Tok ℕ Mark)) → Ok (Taken a) s → Holds (Token k) (then s (λ t b. cond (eqb (t .kind) k) (ok t b) (complain 4 b)))
       go (ok t b) h =

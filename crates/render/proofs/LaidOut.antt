@@ -63,25 +63,31 @@ module _ (n : ℕ) (qs : List Plain) (r : Plain) (l : n ≤ r .at) where
   shifted : (mv : Move) (v : ℕ) (g : Frame ℕ) (fs : List (Frame ℕ)) → r .owner ≡ g .at → Below n (g .at) → opensFor (body (g .block)) (r .kind) mv ≡ true → Owned n qs (g ∷ fs)
       → Standing (suc (r .at)) (r ∷ qs) (shift mv (r .kind) (r .at) (r .name) (r .x) v g fs .blocks)
   shifted stay v g fs e b u h = record {
-    bound = n; within = omega arith; owned = owned-more n qs r l (g ∷ fs) h;
+    bound = n;
+    within = omega arith;
+    owned = owned-more n qs r l (g ∷ fs) h;
     ended = no-end (g .at) e b (not-true (closesWithEnd (r .kind)) u);
   }
   shifted (enter c ks) v g fs e b u h =
       let (p, q) = opens-with (body (g .block)) (r .kind) c u in
       record {
-        bound = suc (r .at); within = omega arith;
+        bound = suc (r .at);
+        within = omega arith;
         owned = (owned-opened n qs r c (counting (r .kind) g) fs l e p q h, owned-raised n (suc (r .at)) (r ∷ qs) (omega arith) (g ∷ fs) (owned-more n qs r l (g ∷ fs) h));
         ended = λ o b. refl;
       }
   shifted (named c ks) v g fs e b u h =
       let (p, q) = opens-with (body (g .block)) (r .kind) c u in
       record {
-        bound = suc (r .at); within = omega arith;
+        bound = suc (r .at);
+        within = omega arith;
         owned = (owned-opened n qs r c (counting (r .kind) g) fs l e p q h, owned-raised n (suc (r .at)) (r ∷ qs) (omega arith) (g ∷ fs) (owned-more n qs r l (g ∷ fs) h));
         ended = λ o b. refl;
       }
   shifted version v g fs e b u h = record {
-    bound = n; within = omega arith; owned = owned-more n qs r l (g ∷ fs) h;
+    bound = n;
+    within = omega arith;
+    owned = owned-more n qs r l (g ∷ fs) h;
     ended = no-end (g .at) e b (not-true (closesWithEnd (r .kind)) u);
   }
 
@@ -182,7 +188,7 @@ module _ (n : ℕ) (qs : List Plain) (r : Plain) (l : n ≤ r .at) (v : ℕ) (es
   then-taken : (f : Frame ℕ) (fs : List (Frame ℕ)) (o : Maybe Form) → Owned n qs (f ∷ fs) → owns f r ≡ true → Below n (f .at)
       → takes v (takenBy f o) r (formIn (takenBy f o) r) ≡ true → fits (entered v (takenBy f o) fs r (formIn (takenBy f o) r)) ≡ true
       → Goes (onLine (body (f .block))) (rowOf qs r ++ es)
-        (before f o ++ (statement (length fs) (takenBy f o) r (formIn (takenBy f o) r) ++ rest (entered v (takenBy f o) fs r (formIn (takenBy f o) r))))
+      (before f o ++ (statement (length fs) (takenBy f o) r (formIn (takenBy f o) r) ++ rest (entered v (takenBy f o) fs r (formIn (takenBy f o) r))))
   then-taken f fs none h w b t z =
       let a = sym (settled-keeps f .1) in
       then-settled f _ _ (then-entered (settled f) fs (formIn (settled f) r) refl (owned-settled n qs f fs h) (subst (λ o. same o (r .owner) ≡ true) a w) (subst (Below n) a b) t z)
@@ -205,8 +211,8 @@ module _ (n : ℕ) (qs : List Plain) (r : Plain) (l : n ≤ r .at) (v : ℕ) (es
           → (Owned n qs fs → admits v fs r ≡ true → fits (after v fs r) ≡ true
           → Goes (openLine fs) (endsUpTo qs (r .owner) (chain qs (top fs)) ++ (rowOf qs r ++ es)) (pieces fs r ++ rest (after v fs r)))
           → Goes (onLine (body (f .block))) (endsUpTo qs (r .owner) (chain qs (f .at)) ++ (rowOf qs r ++ es))
-            (cond c (before f (formIn f r) ++ statement (length fs) (taking f r) r (formIn (taking f r) r)) (closing f fs ++ pieces fs r)
-            ++ rest (cond c (entered v (taking f r) fs r (formIn (taking f r) r)) (after v fs r)))
+          (cond c (before f (formIn f r) ++ statement (length fs) (taking f r) r (formIn (taking f r) r)) (closing f fs ++ pieces fs r)
+          ++ rest (cond c (entered v (taking f r) fs r (formIn (taking f r) r)) (after v fs r)))
       go true e a z ih = rw (append-assoc, none-ends n qs f fs r h e) (then-taken f fs (formIn f r) h e (top-below n qs (f ∷ fs) h) a z)
       go false e a z ih =
           let d = both (mayEnd f (comes fs r)) (admits v fs r) a .1 in

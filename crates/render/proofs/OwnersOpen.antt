@@ -150,11 +150,18 @@ module _ (n : ℕ) (qs : List Plain) (r : Plain) (l : n ≤ r .at) where
       go : (o : Maybe ℕ) → Around n qs (f .block) fs o (Owned n qs fs) → (Owned n qs fs → Owned n (r ∷ qs) fs) → Around n (r ∷ qs) (f .block) fs o (Owned n (r ∷ qs) fs)
       go none h ih = h
       go (some p) h ih =
-          let k = h .0 in
-          (record {
-            opener = k .opener; place = k .place; below = k .below; ended = k .ended; owner = k .owner;
-            chained = chain-more (some p) (k .below) ∙ k .chained ∙ ap (λ c. k .opener ∷ c) (sym (chain-more (top fs) (top-below n qs fs (h .1)))); broken = k .broken;
-          }, ih (h .1))
+          let k = h .0 in (
+            record {
+              opener = k .opener;
+              place = k .place;
+              below = k .below;
+              ended = k .ended;
+              owner = k .owner;
+              chained = chain-more (some p) (k .below) ∙ k .chained ∙ ap (λ c. k .opener ∷ c) (sym (chain-more (top fs) (top-below n qs fs (h .1))));
+              broken = k .broken;
+            },
+            ih (h .1),
+          )
 
 pub owned-raised : (n m : ℕ) (qs : List Plain) → n ≤ m → (fs : List (Frame ℕ)) → Owned n qs fs → Owned m qs fs
 owned-raised n m qs l [] h = h
@@ -180,11 +187,18 @@ owned-settled n qs f fs h = go (body (f .block)) refl
         library : (b : Block) → b ≡ Library → body b ≡ options rows c → ⊥
         library b z e = let w : isOptions (body Library) ≡ true = ap isOptions (sym (ap body z) ∙ e) in false≢true w
     become-owned rows c e (some p) h =
-        let k = h .0 in
-        (record {
-          opener = k .opener; place = k .place; below = k .below;
-          ended = k .ended ∙ ap endsByWords e ∙ sym (no-options (body c) (options-over (f .block) c rows e)); owner = k .owner; chained = k .chained; broken = k .broken;
-        }, h .1)
+        let k = h .0 in (
+          record {
+            opener = k .opener;
+            place = k .place;
+            below = k .below;
+            ended = k .ended ∙ ap endsByWords e ∙ sym (no-options (body c) (options-over (f .block) c rows e));
+            owner = k .owner;
+            chained = k .chained;
+            broken = k .broken;
+          },
+          h .1,
+        )
 
     go : (d : Body) → body (f .block) ≡ d → Owned n qs (settledBy f d ∷ fs)
     go (keyed n rows) e = h
@@ -199,7 +213,11 @@ pub owned-opened : (n : ℕ) (qs : List Plain) (r : Plain) (b : Block) (f : Fram
     → Opener (suc (r .at)) (r ∷ qs) b (f ∷ fs) (r .at)
 unfolding chain
 owned-opened n qs r b f fs l o e u h = record {
-  opener = r; place = refl; below = omega arith; ended = e; owner = o;
+  opener = r;
+  place = refl;
+  below = omega arith;
+  ended = e;
+  owner = o;
   chained = rw (eq-eqb (r .at) (r .at) refl) (ap (λ c. r ∷ c) (ap (chain qs) o ∙ sym (chain-more n qs r l (f .at) (top-below n qs (f ∷ fs) h))));
   broken = u;
 }

@@ -11,7 +11,7 @@ use Rattle.lexer.specs.Kinds as Kind
 use Rattle.word.specs.Words as Words
 use Rattle.word.specs.Words.{word, isKey}
 use Rattle.word.proofs.Words.{both, same-eq}
-use Rattle.grammar.specs.Tokens.{Tok, Ahead, Answer, ok, refused, then, take, matches, bad}
+use Rattle.grammar.specs.Tokens.{Tok, Ahead, Answer, ok, refused, then, next-token, matches, bad}
 use Rattle.grammar.specs.Grammar.{Item, Move, stay, Act, statement, close, refuse, back, upTo54, Row, Body, keyed, worded, options, parts, counted}
 use Rattle.grammar.specs.Table.{body}
 use Rattle.grammar.specs.Engine.{none, some, Rec, Draft, Frame, blank, get-name, items, empty}
@@ -61,7 +61,7 @@ module _ (v : ℕ) (f : Frame ℕ) (a : Ahead ℕ Mark) where
 
   -- a row that the token held begins
   module _ (t : Bool) (rows : List Row) (w : String) (act : Act) (begun : Begun t rows w act) (ts : List Said) where
-    pub keyed-row : (n : ℕ) → t ≡ true → standing a ≡ said Kind.name (bytes w) ∷ ts → step v f a (keyed n rows) ≡ perform v f a (take a) (a .held .mark) act
+    pub keyed-row : (n : ℕ) → t ≡ true → standing a ≡ said Kind.name (bytes w) ∷ ts → step v f a (keyed n rows) ≡ perform v f a (next-token a) (a .held .mark) act
     unfolding step peek-key
     keyed-row n e z =
         let k : isKey (word w) ≡ true = rw e at begun .key in
@@ -159,7 +159,7 @@ module _ (v : ℕ) (f : Frame ℕ) (r : Plain) (m : Form) (a : Ahead ℕ Mark) (
       let (w, act, b, o) = stated r m true rows s e in
       let y = after-word w (of-begin w false act m o) in
       rw (keyed-row v f a true rows w act b rest n refl y)
-      (worded-gives v f a r m us fit (form-kind r (rowForms rows) m e) (of-legible w false act m o (b .legible)) g (λ u. u ≡ a .held) (take a) (a .held .mark) w act
+      (worded-gives v f a r m us fit (form-kind r (rowForms rows) m e) (of-legible w false act m o (b .legible)) g (λ u. u ≡ a .held) (next-token a) (a .held .mark) w act
       (take-back a (said Kind.name (bytes w)) rest y rest-start) o old)
   body-gives (worded rows) s e h = judged-gives rows s e
   body-gives (options rows c) s e h =

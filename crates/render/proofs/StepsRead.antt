@@ -8,7 +8,7 @@ use Rattle.lexer.specs.Kinds as Kind
 use Rattle.word.specs.Words.{keys, values, words, raised, upper, same, firstWhere, wordOf, isKey}
 use Rattle.word.specs.Codes.{onOff, siteClasses, symmetries, macroClasses, directions, uses, shapes, antennaModels, antennaKeys, portClasses, layerOptions, valuesOf, placeOf, codeOf}
 use Rattle.word.proofs.Words.{both, clash, same-refl}
-use Rattle.grammar.specs.Tokens.{Tok, Ahead, Answer, ok, refused, take, matches}
+use Rattle.grammar.specs.Tokens.{Tok, Ahead, Answer, ok, refused, next-token, matches}
 use Rattle.grammar.specs.Grammar.{Block, Item, semi, whole, stay, Act, Row, Body, keyed, worded, options, parts, counted}
 use Rattle.grammar.specs.Table.{body}
 use Rattle.grammar.specs.Engine.{Maybe, none, some, Rec, Draft, Frame, blank, get-name, empty, items}
@@ -167,10 +167,10 @@ module _ (v : ℕ) (f : Frame ℕ) (a : Ahead ℕ Mark) where
       let (u, l) = both (orderly rows && all-stay (isSome (closeOf rows)) rows) (last-fit (closeOf rows)) e in
       let (o, s) = both (orderly rows) (all-stay (isSome (closeOf rows)) rows) u in
       let p = a .held .mark in
-      let t = perform v f a (take a) p (actFor n (held v f a) rows) in
+      let t = perform v f a (next-token a) p (actFor n (held v f a) rows) in
       by-cond v f a (Writes (keyed n rows)) (matches Kind.name a) _ (halts 4 p)
       (λ q. by-cond v f a (Writes (keyed n rows)) (isKey (held v f a)) t (halts 5 p)
-      (λ q. keyed-writes n rows s l t (rows-act v f a n p (take a) (take-taken a) rows o)) (λ q. tt)) (λ q. tt)
+      (λ q. keyed-writes n rows s l t (rows-act v f a n p (next-token a) (take-taken a) rows o)) (λ q. tt)) (λ q. tt)
   step-writes (worded rows) e =
       let (u, l) = both (orderly rows && all-stay true rows) (last-fit (closeOf rows)) e in
       let (o, s) = both (orderly rows) (all-stay true rows) u in
@@ -178,7 +178,7 @@ module _ (v : ℕ) (f : Frame ℕ) (a : Ahead ℕ Mark) where
   step-writes (options rows c) e =
       let (u, l) = both (orderly rows && all-stay true rows) (not (isSome (closeOf rows))) e in
       let (o, s) = both (orderly rows) (all-stay true rows) u in
-      by-cond v f a (Writes (options rows c)) (matches Kind.semicolon a) (gone c (take a)) (judged v f a rows (get-name a)) (λ p. gone-writes rows c (take a))
+      by-cond v f a (Writes (options rows c)) (matches Kind.semicolon a) (gone c (next-token a)) (judged v f a rows (get-name a)) (λ p. gone-writes rows c (next-token a))
       (λ p. options-write rows c s (not-true _ l) (judged v f a rows (get-name a)) (judged-act v f a rows o (get-name a) (expect-taken Kind.name a)))
   step-writes (parts k is) e =
       let t = items 0 f (whole 6 ∷ semi ∷ []) (blank 0 f a) a in

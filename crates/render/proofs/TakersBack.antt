@@ -13,7 +13,7 @@ use Rattle.numeral.specs.Stored.{storedOf, valueOf}
 use Rattle.numeral.proofs.Round.{read-again}
 use Rattle.word.specs.Words.{same, wordOf, isKey}
 use Rattle.word.proofs.Words.{both, same-refl}
-use Rattle.grammar.specs.Tokens.{Tok, Ahead, Answer, ok, refused, then, complain, next, take, expect, bad}
+use Rattle.grammar.specs.Tokens.{Tok, Ahead, Answer, ok, refused, then, complain, next, next-token, expect, bad}
 use Rattle.grammar.specs.Engine.{get-key, expect-key, expect-keyword, expect-ident, parse-number, parse-enum}
 use Rattle.grammar.specs.Reading.{Mark}
 use Rattle.render.specs.Pieces.{Said}
@@ -80,13 +80,13 @@ next-back t (n ∷ l) ts z s =
     back-false (λ u. u ≡ t) ts (eqb (n .kind) bad) (refused 3 (n .mark)) (ok t (record { held = n; rest = l })) (not-true _ (rw (← z) at s)) (refl, z)
 
 module _ (a : Ahead ℕ Mark) (t : Said) (ts : List Said) (z : standing a ≡ t ∷ ts) (s : starts ts ≡ true) where
-  pub take-back : Back (λ u. u ≡ a .held) ts (take a)
+  pub take-back : Back (λ u. u ≡ a .held) ts (next-token a)
   take-back = next-back (a .held) (a .rest) ts (ap tail z) s
 
   pub expect-back : (k : ℕ) → t .kind ≡ k → Back (λ u. u .bytes ≡ t .bytes) ts (expect k a)
   unfolding expect
   expect-back k e =
-      back-then (λ u. u ≡ a .held) (λ u. u .bytes ≡ t .bytes) ts ts (take a) _ take-back
+      back-then (λ u. u ≡ a .held) (λ u. u .bytes ≡ t .bytes) ts ts (next-token a) _ take-back
       (λ u b q y. back-true (λ u. u .bytes ≡ t .bytes) ts (eqb (u .kind) k) (ok u b) (complain 4 b) (eq-eqb (u .kind) k (rw q (held-kind a t ts z ∙ e))) (rw q (held-bytes a t ts z), y))
 
   module _ (n : t .kind ≡ Kind.name) where

@@ -49,9 +49,9 @@ some-width : (n : ℕ) (file : List ℕ) (i : ℕ) → hasRoom n file i ≡ true
 some-width n file i h = elim (decLt 0 n) [
   | yes p ↦ p
   | no q ↦
-    let e : n ≡ 0 = omega (arith, q) in
-    let none : count n file ≡ 0 = rw e (div-zero (length file)) in
-    absurd (omega (arith, ltb-true i (count n file) h))
+      let e : n ≡ 0 = omega (arith, q) in
+      let none : count n file ≡ 0 = rw e (div-zero (length file)) in
+      absurd (omega (arith, ltb-true i (count n file) h))
 ]
 
 module _ (n : ℕ) (row : List ℕ) (i : ℕ) (file : List ℕ) (room : hasRoom n file i ≡ true) where

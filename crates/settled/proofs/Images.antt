@@ -55,13 +55,13 @@ toStep (T.halts n m) = Step.Refused (why n m)
 
 module _ (s : List ℕ) where
   pub as-taken : (h : Token) (x y : Taken) → asTaken s h x ≡ asTaken s h y → x ≡ y
-  as-taken h = one (asTaken s h) toTaken (elim [ | Taken.Next t ↦ refl | Taken.Refused r ↦ refl ])
+  as-taken h = one (asTaken s h) toTaken (elim [ Taken.Next t ↦ refl | Taken.Refused r ↦ refl ])
 
   pub as-number : (x y : Number) → asNumber s x ≡ asNumber s y → x ≡ y
-  as-number = one (asNumber s) (toNumber (λ v. v)) (elim [ | Number.Value v t ↦ refl | Number.Refused r ↦ refl ])
+  as-number = one (asNumber s) (toNumber (λ v. v)) (elim [ Number.Value v t ↦ refl | Number.Refused r ↦ refl ])
 
   pub as-word : (x y : Word) → asWord s x ≡ asWord s y → x ≡ y
-  as-word = one (asWord s) (toWord (λ k. k)) (elim [ | Word.Is k t ↦ refl | Word.Refused r ↦ refl ])
+  as-word = one (asWord s) (toWord (λ k. k)) (elim [ Word.Is k t ↦ refl | Word.Refused r ↦ refl ])
 
   pub as-step : (x y : Step) → asStep s x ≡ asStep s y → x ≡ y
   as-step = one (asStep s) toStep (elim [
@@ -74,22 +74,22 @@ module _ (s : List ℕ) where
 
   module _ (d : Draft ℕ) where
     pub as-x : (x y : Number) → asX s d x ≡ asX s d y → x ≡ y
-    as-x = one (asX s d) (toNumber (λ e. e .rec .x)) (elim [ | Number.Value v t ↦ refl | Number.Refused r ↦ refl ])
+    as-x = one (asX s d) (toNumber (λ e. e .rec .x)) (elim [ Number.Value v t ↦ refl | Number.Refused r ↦ refl ])
 
     pub as-xy : (x y : Point) → asXY s d x ≡ asXY s d y → x ≡ y
-    as-xy = one (asXY s d) toPoint (elim [ | Point.At v w t ↦ refl | Point.Refused r ↦ refl ])
+    as-xy = one (asXY s d) toPoint (elim [ Point.At v w t ↦ refl | Point.Refused r ↦ refl ])
 
     pub as-code : (x y : Word) → asCode s d x ≡ asCode s d y → x ≡ y
-    as-code = one (asCode s d) (toWord (λ e. e .rec .code)) (elim [ | Word.Is k t ↦ refl | Word.Refused r ↦ refl ])
+    as-code = one (asCode s d) (toWord (λ e. e .rec .code)) (elim [ Word.Is k t ↦ refl | Word.Refused r ↦ refl ])
 
     pub as-first : (x y : Word) → asFirst s d x ≡ asFirst s d y → x ≡ y
-    as-first = one (asFirst s d) (toWord (λ e. e .first)) (elim [ | Word.Is k t ↦ refl | Word.Refused r ↦ refl ])
+    as-first = one (asFirst s d) (toWord (λ e. e .first)) (elim [ Word.Is k t ↦ refl | Word.Refused r ↦ refl ])
 
     pub as-rec : (x y : Word) → asRec s d x ≡ asRec s d y → x ≡ y
-    as-rec = one (asRec s d) (toWord (λ e. e .code)) (elim [ | Word.Is k t ↦ refl | Word.Refused r ↦ refl ])
+    as-rec = one (asRec s d) (toWord (λ e. e .code)) (elim [ Word.Is k t ↦ refl | Word.Refused r ↦ refl ])
 
     pub as-named : (t : Token) (x y : Taken) → asNamed s d t x ≡ asNamed s d t y → x ≡ y
-    as-named t = one (asNamed s d t) toTaken (elim [ | Taken.Next u ↦ refl | Taken.Refused r ↦ refl ])
+    as-named t = one (asNamed s d t) toTaken (elim [ Taken.Next u ↦ refl | Taken.Refused r ↦ refl ])
 
 -- what was looked at stands in what follows from it, for a continuation that keeps it
 abbrev keeps : ℕ → T.Step ℕ Mark (Rec ℕ)
@@ -103,4 +103,4 @@ toPeeked T.backs = Peeked.Is 0
 toPeeked (T.halts n m) = Peeked.Refused (why n m)
 
 pub as-peeked : (x y : Peeked) → ((k : ℕ → T.Step ℕ Mark (Rec ℕ)) → asPeeked x k ≡ asPeeked y k) → x ≡ y
-as-peeked x y e = one (λ p. asPeeked p keeps) toPeeked (elim [ | Peeked.Is w ↦ refl | Peeked.Refused r ↦ refl ]) x y (e keeps)
+as-peeked x y e = one (λ p. asPeeked p keeps) toPeeked (elim [ Peeked.Is w ↦ refl | Peeked.Refused r ↦ refl ]) x y (e keeps)

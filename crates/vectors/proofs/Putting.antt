@@ -28,7 +28,7 @@ module _ {out₀ whole out : List ℕ} {n : ℕ} {rest : List ℕ} (p : Putting 
     room = rw length-set (omega arith);
     same = rw length-set (p .same);
     laid = rw add-one (rw e at (p .laid));
-    left = omega (arith, rw e at (p .left))
+    left = omega (arith, rw e at (p .left));
   }
 
   -- none is left, or there is no room for one
