@@ -43,7 +43,7 @@ pub mod BlocksBack
 pub mod ListsBack
 pub mod Opened
 pub mod OwnersOpen
-pub mod Places
+pub mod LineKinds
 pub mod LaidLines
 pub mod Nested
 pub mod Coming

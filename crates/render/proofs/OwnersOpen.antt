@@ -1,20 +1,19 @@
 -- The open blocks are the owners of what comes next: a record opens a block at its own place, inside the block of its owner, so each
 -- block's opener is owned by the opener of the block around it, out to the library.
 use Prim.Native.Nat.{ℕ, suc, _≤_, _<_}
-use mathlib.Core.Path.{_≡_, refl, sym, ap, subst, _∙_}
-use mathlib.Core.Bool.{Bool, true, false, cond, not, _&&_, _||_, false≢true}
+use mathlib.Core.Path.{_≡_, refl, sym, ap, _∙_}
+use mathlib.Core.Bool.{Bool, true, false, cond, _&&_, false≢true}
 use mathlib.Core.List.{List, [], _∷_}
 use native.Mathlib.Omega.{arith}
-use borrow.Author.Tests.{eqb-true, eq-eqb, ne-eqb, not-true}
+use borrow.Author.Tests.{eqb-true, eq-eqb, ne-eqb}
 use lib.ListN.{length}
 use Rattle.word.proofs.Words.{both, clash}
-use Rattle.grammar.specs.Grammar.{Block, Library, Move, stay, enter, named, version, Row, Body, keyed, worded, options, parts, counted}
+use Rattle.grammar.specs.Grammar.{Block, Library, Row, Body, keyed, worded, options, parts, counted}
 use Rattle.grammar.specs.Table.{body}
 use Rattle.grammar.specs.Engine.{Maybe, none, some, Frame}
-use Rattle.grammar.specs.Turns.{shift, become}
 use Rattle.render.specs.Plain.{Plain}
 use Rattle.render.specs.Forms.{closeOf}
-use Rattle.render.specs.Lines.{onLine, same, owns, settledBy, settled, taking, formIn}
+use Rattle.render.specs.Lines.{onLine, same, settledBy, settled, taking, formIn}
 use Rattle.render.specs.Fit.{takes, mayEnd, comes, admits}
 use Rattle.render.specs.Layout.{closesWithEnd, chain}
 use Rattle.render.proofs.Stands.{isSome}

@@ -24,7 +24,7 @@ use Rattle.render.specs.Says.{isCode, says, shows, any, omitted, saysAll
 use Rattle.render.specs.Forms.{formsOf, rowForms, formsIn, ofCode, isOf, formFor, begins, saidIn, closeOf, lastWords}
 use Rattle.render.specs.Lines.{spaced, indented, line, onLine, endAll, pieces, after, lines, render}
 use Rattle.render.specs.Fit.{suits, admits, allEnd, fitFrom, indexed, isFit}
-use Rattle.render.specs.Layout.{onOwnersLine, closesWithEnd, chain, endsUpTo, rows}
+use Rattle.render.specs.Layout.{onOwnersLine, closesWithEnd, Part, begins as beginsAt, goes, ends, last, chain, endsUpTo, layout}
 
 -- the written text of what a text reads as
 abbrev rewritten : List ℕ → Reading → List ℕ
@@ -62,7 +62,14 @@ nested =
     bareRecord 13 0 none ∷ bareRecord 18 1 (some 0) ∷ bareRecord 24 2 (some 1) ∷ bareRecord 27 3 (some 2) ∷ bareRecord 30 4 (some 3)
     ∷ bareRecord 33 5 (some 4) ∷ bareRecord 33 6 (some 4) ∷ bareRecord 26 7 (some 0) ∷ []
 
--- five lines, END of the PORT and of the PIN, the OBS and its END, END of the MACRO, END LIBRARY
-pub depths : map (λ e. e .depth) (rows [] nested) ≡ 0 ∷ 1 ∷ 2 ∷ 3 ∷ 4 ∷ 2 ∷ 1 ∷ 1 ∷ 1 ∷ 0 ∷ 0 ∷ []
-unfolding member onOwnersLine closesWithEnd chain endsUpTo rows
+-- how deep the line of a part is, and none for one that goes on in its line
+abbrev depthOf : Part → Maybe ℕ
+depthOf (beginsAt d r) = some d
+depthOf (goes r) = none
+depthOf (ends d q) = some d
+depthOf last = some 0
+
+-- five lines, the last with two points; END of the PORT and of the PIN; the OBS and its END; END of the MACRO; END LIBRARY
+pub depths : map depthOf (layout [] nested) ≡ some 0 ∷ some 1 ∷ some 2 ∷ some 3 ∷ some 4 ∷ none ∷ none ∷ some 2 ∷ some 1 ∷ some 1 ∷ some 1 ∷ some 0 ∷ some 0 ∷ []
+unfolding member onOwnersLine closesWithEnd chain endsUpTo layout
 depths = refl

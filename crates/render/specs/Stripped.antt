@@ -1,4 +1,4 @@
--- A token that is read, as it was written: without where it stands.
+-- Inner machinery, which nobody has to believe: a token that is read, as it was written, without where it stands.
 use mathlib.Core.List.{[]}
 use Rattle.grammar.specs.Tokens.{Tok, end}
 use Rattle.render.specs.Pieces.{Said, said}

@@ -15,7 +15,7 @@ use Rattle.grammar.specs.Engine.{Maybe, none, some, Frame, member}
 use Rattle.grammar.proofs.Blocks.{at-block}
 use Rattle.render.specs.Spelt.{all}
 use Rattle.render.specs.Plain.{Plain}
-use Rattle.render.specs.Forms.{Form, formsOf, rowForms, formsIn, formFor, Close, closeOf}
+use Rattle.render.specs.Forms.{Form, formsOf, rowForms, formsIn, Close, closeOf}
 use Rattle.render.specs.Lines.{onLine, formIn}
 use Rattle.render.specs.Layout.{onOwnersLine, closesWithEnd}
 use Rattle.render.proofs.Forms.{form-passes, form-kind}
