@@ -27,7 +27,7 @@ pub fn bytes(r: Record) -> [u8; 36]
     bytes
 }
 
-// Writes the record at the index, and says whether the file had room there.
+// Writes the record at the index, and says whether the file had room there: where it has none no bytes are made.
 pub fn put(r: Record, file: &mut [u8], index: usize) -> bool
     ensures { λ b. ⌜ b ≡ hasRoom (now (file .entry)) index ⌝ }
     ensures { λ b. ⌜ now (file .exit) ≡ stored r index (now (file .entry)) ⌝ }

@@ -7,7 +7,6 @@ use Rattle.little.specs.Little.{little}
 use Rattle.rowfile.specs.Rows.{joined}
 use Rattle.record.specs.Bytes.{encoded}
 use Rattle.record.specs.Made.{made, library}
-use Rattle.file.specs.File.{encodedAll}
 use Rattle.grammar.specs.Reading.{Reading, records}
 use Rattle.reader.specs.Answered.{answered, filled}
 

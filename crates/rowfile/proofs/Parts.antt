@@ -1,5 +1,5 @@
 -- Where a row stands: a row that a file has room for lies in the file, and a part of a row is a part of the file.
-use Prim.Native.Nat.{ℕ, zero, suc, _+_, _*_, _/_, _≤_, _<_}
+use Prim.Native.Nat.{ℕ, zero, suc, _+_, _*_, _≤_, _<_}
 use mathlib.Core.Path.{_≡_, refl, ap, _∙_}
 use mathlib.Core.List.{List, [], _∷_}
 use native.Mathlib.Nat.{mul-comm, mul-suc, mul-le-mul-left, le-div-iff-mul-le}
@@ -18,7 +18,7 @@ next n i = omega (arith, mul-suc n i)
 pub apart : (n i j : ℕ) → i < j → n * i + n ≤ n * j
 apart n i j h = omega (arith, mul-suc n i, mul-le-mul-left {m = suc i} {n = j} n h)
 
--- a row has a width, where a file has one, and ends in the file
+-- a row that a file has room for ends in the file
 pub in-file : (n : ℕ) (file : List ℕ) (i : ℕ) → 0 < n → i < count n file → n * i + n ≤ length file
 in-file n file i p h =
     let all : suc i * n ≤ length file = le-div-iff-mul-le {k = n} {x = suc i} {y = length file} p .0 h in

@@ -1,5 +1,5 @@
 -- `rowfile::put` meets its contract: the tests are those of `hasRoom`, and what `lay` leaves is what `stored` says.
-use Prim.Native.Nat.{_+_, _*_, _/_, _≤_}
+use Prim.Native.Nat.{_/_, _≤_}
 use native.Mathlib.Nat.{div-zero}
 use native.Mathlib.Omega.{arith}
 use borrow.Author.Needs.{needs}
