@@ -12,16 +12,17 @@ use Rattle.lexer.specs.declared.Screened.the-variants.{Clear, Refused}
 use Rattle.lexer.specs.Screen.{screened}
 use Rattle.lexer.specs.Lex.{lexFrom}
 use Rattle.lexer.specs.declared.Answer.the-variants as A
-use Rattle.lexer.specs.Answer.{Numbers, numbers, told, firstToken}
+use Rattle.lexer.specs.Numbers.{Numbers, refusedAs, standsAs}
+use Rattle.lexer.specs.Answer.{numbers, told, firstToken}
 use Rattle.parser.specs.declared.take.Taken.the-variants as T
 use Rattle.parser.specs.Code.{heldNext}
 
 -- the numbers of a token, and of a refusal
 abbrev pub ofToken : Token → Numbers
-ofToken t = record { refusal = 0; place = 0; line = 0; kind = t .kind; start = t .start; stop = t .stop }
+ofToken t = standsAs 0 (t .kind) (t .start) (t .stop)
 
 abbrev pub ofRefusal : Refusal → Numbers
-ofRefusal r = record { refusal = r .number; place = r .place; line = r .line; kind = 0; start = 0; stop = 0 }
+ofRefusal r = refusedAs r
 
 clash : {X : Type 0} → _≡_ {A = ℕ} 0 1 → X
 clash e = absurd (omega (arith, e))

@@ -35,7 +35,7 @@ pub fn answer(a: Refusal, records: &[u8], mark: &[u8]) -> bool
     read
 }
 
-// The first records, so many as are counted.
+// The records that are counted, from the first on, with the mark between them.
 fn first(count: usize, records: &[u8], mark: &[u8]) {
     let mut i = 0;
     while i < count {

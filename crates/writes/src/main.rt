@@ -78,15 +78,19 @@ fn written(text: &[u8], file: &[u8], out: &mut [u8]) {
 // A text of at most 16,384 bytes.
 fn again(field: &[u8]) {
     let mut text = [0u8; 16384];
-    let mut file = [0u8; 294912];
     let n = plain::bytes(field, &mut text);
-    let a = reader::reading::read(&text[0..n], &mut file);
+    reread(&text[0..n]);
+}
+
+fn reread(text: &[u8]) {
+    let mut file = [0u8; 294912];
+    let a = reader::reading::read(text, &mut file);
     if a.number != Refusal::DONE {
         refused(a);
         return;
     }
     let count = a.place;
-    rewritten(&text[0..n], &file, count);
+    rewritten(text, &file, count);
 }
 
 // The text with the first n records of the file.
