@@ -4,3 +4,4 @@ pub mod Calls
 pub mod Parts
 pub mod Records
 pub mod Images
+pub mod Refusals

@@ -40,8 +40,14 @@ use Rattle.file.proofs.read as of-read-record
 use Rattle.file.proofs.read.Reads as of-read-record-says
 use Rattle.little.proofs.number as of-number
 use Rattle.little.proofs.number.Reads as of-number-says
+use Rattle.little.proofs.word32 as of-word32
+use Rattle.little.proofs.word32.Reads as of-word32-says
+use Rattle.little.proofs.word64 as of-word64
+use Rattle.little.proofs.word64.Reads as of-word64-says
 use Rattle.little.proofs.lay as of-lay
 use Rattle.little.proofs.lay.Reads as of-lay-says
+use Rattle.rowfile.proofs.put as of-put-row
+use Rattle.rowfile.proofs.put.Reads as of-put-row-says
 
 pub screen : Settles of-screen.ended of-screen-says.Learnt
 screen κs i a b v w p q = (same p q, refl)
@@ -102,3 +108,12 @@ number κs i a b v w p q = (same (p .0) (q .0), refl)
 
 pub lay : Settles of-lay.ended of-lay-says.Learnt
 lay κs i a b v w p q = (refl, λ i. (same p q i, (tt, (tt, (tt, tt)))))
+
+pub word32 : Settles of-word32.ended of-word32-says.Learnt
+word32 κs i a b v w p q = (same (p .0) (q .0), refl)
+
+pub word64 : Settles of-word64.ended of-word64-says.Learnt
+word64 κs i a b v w p q = (same p q, refl)
+
+pub put-row : Settles of-put-row.ended of-put-row-says.Learnt
+put-row κs i a b v w p q = (same (p .0) (q .0), λ i. (tt, (same (p .1) (q .1) i, (tt, tt))))

@@ -1,4 +1,4 @@
--- The fields and the constructors of a record, and the refusals: each answer is equated with a definition.
+-- The fields and the constructors of a record: each answer is equated with a definition.
 use mathlib.Core.Path.{refl}
 use Rattle.settled.specs.Settled.{Settles}
 use Rattle.settled.proofs.Laws.{same}
@@ -96,24 +96,6 @@ use Rattle.record.proofs.Record.point as of-make-point
 use Rattle.record.proofs.Record.point.Reads as of-make-point-says
 use Rattle.record.proofs.Record.via as of-make-via
 use Rattle.record.proofs.Record.via.Reads as of-make-via-says
-use Rattle.refusal.proofs.Refusal.done as of-refusal-done
-use Rattle.refusal.proofs.Refusal.done.Reads as of-refusal-done-says
-use Rattle.refusal.proofs.Refusal.«too_long» as of-refusal-too-long
-use Rattle.refusal.proofs.Refusal.«too_long».Reads as of-refusal-too-long-says
-use Rattle.refusal.proofs.Refusal.«not_ascii» as of-refusal-not-ascii
-use Rattle.refusal.proofs.Refusal.«not_ascii».Reads as of-refusal-not-ascii-says
-use Rattle.refusal.proofs.Refusal.«no_token» as of-refusal-no-token
-use Rattle.refusal.proofs.Refusal.«no_token».Reads as of-refusal-no-token-says
-use Rattle.refusal.proofs.Refusal.«record_room» as of-refusal-record-room
-use Rattle.refusal.proofs.Refusal.«record_room».Reads as of-refusal-record-room-says
-use Rattle.refusal.proofs.Refusal.«text_room» as of-refusal-text-room
-use Rattle.refusal.proofs.Refusal.«text_room».Reads as of-refusal-text-room-says
-use Rattle.refusal.proofs.Refusal.«not_whole» as of-refusal-not-whole
-use Rattle.refusal.proofs.Refusal.«not_whole».Reads as of-refusal-not-whole-says
-use Rattle.refusal.proofs.Refusal.«wrong_record» as of-refusal-wrong-record
-use Rattle.refusal.proofs.Refusal.«wrong_record».Reads as of-refusal-wrong-record-says
-use Rattle.refusal.proofs.Refusal.lacking as of-refusal-lacking
-use Rattle.refusal.proofs.Refusal.lacking.Reads as of-refusal-lacking-says
 
 pub record-kind : Settles of-record-kind.ended of-record-kind-says.Learnt
 record-kind κs i a b v w p q = (same p q, refl)
@@ -255,30 +237,3 @@ make-point κs i a b v w p q = (same p q, refl)
 
 pub make-via : Settles of-make-via.ended of-make-via-says.Learnt
 make-via κs i a b v w p q = (same p q, refl)
-
-pub refusal-done : Settles of-refusal-done.ended of-refusal-done-says.Learnt
-refusal-done κs i a b v w p q = (same p q, refl)
-
-pub refusal-too-long : Settles of-refusal-too-long.ended of-refusal-too-long-says.Learnt
-refusal-too-long κs i a b v w p q = (same p q, refl)
-
-pub refusal-not-ascii : Settles of-refusal-not-ascii.ended of-refusal-not-ascii-says.Learnt
-refusal-not-ascii κs i a b v w p q = (same p q, refl)
-
-pub refusal-no-token : Settles of-refusal-no-token.ended of-refusal-no-token-says.Learnt
-refusal-no-token κs i a b v w p q = (same p q, refl)
-
-pub refusal-record-room : Settles of-refusal-record-room.ended of-refusal-record-room-says.Learnt
-refusal-record-room κs i a b v w p q = (same p q, refl)
-
-pub refusal-text-room : Settles of-refusal-text-room.ended of-refusal-text-room-says.Learnt
-refusal-text-room κs i a b v w p q = (same p q, refl)
-
-pub refusal-not-whole : Settles of-refusal-not-whole.ended of-refusal-not-whole-says.Learnt
-refusal-not-whole κs i a b v w p q = (same p q, refl)
-
-pub refusal-wrong-record : Settles of-refusal-wrong-record.ended of-refusal-wrong-record-says.Learnt
-refusal-wrong-record κs i a b v w p q = (same p q, refl)
-
-pub refusal-lacking : Settles of-refusal-lacking.ended of-refusal-lacking-says.Learnt
-refusal-lacking κs i a b v w p q = (same p q, refl)
