@@ -1,5 +1,5 @@
--- The second word asked for by the list of the kind's values, as the code asks. Nobody has to believe this: proofs/Second.antt
--- proves it equal to `parse-second`.
+-- Inner machinery, which nobody has to believe: the second word asked for by the list of the kind's values, as the code asks.
+-- proofs/Second.antt proves it equal to `parse-second`.
 use Prim.Native.Nat.{ℕ}
 use mathlib.Core.Bool.{Bool, false, cond, not, _&&_, _||_}
 use mathlib.Core.List.{List, [], _∷_}

@@ -1,4 +1,5 @@
--- The verdict by facts on single records: r and f give the records of the reading and of the file by their index, and m and n say how many there are.
+-- Inner machinery, which nobody has to believe: the verdict by facts on single records. Here r and f give the records of the reading and of
+-- the file by their index, and m and n say how many there are.
 use Prim.Native.Nat.{ℕ, _<_}
 use mathlib.Core.Path.{_≡_}
 use mathlib.Core.Logic.{_⊎_}
