@@ -6,20 +6,29 @@ compared with its rust_decimal; key words and value words are the original's; co
 of tools/readings; runs of the listing are typed here from the rules' worked examples.
 
 vectors.py --check: are the stored lines those made here, and does the model confirm the stored answers? This asks no original."""
+import os
 import random
 import re
 import subprocess
 import sys
 
 sys.dont_write_bytecode = True
+sys.path.append(os.path.join(os.path.dirname(os.path.abspath(__file__)), "lef21"))
 import answers
 import form
 import model
+from original import PUBLISHED, file, program
 from model import CODES, GREATEST, KEY_WORDS, KNOWN, SIZE
 
+if sys.argv[1:] in (["--help"], ["-h"]):
+    print(__doc__)
+    sys.exit()
 checking = sys.argv[1:] == ["--check"]
-if not checking and len(sys.argv) != 3:
-    sys.exit(__doc__)
+if not checking:
+    if len(sys.argv) != 3:
+        sys.exit(__doc__)
+    program(sys.argv[1], "tools/lef21/build makes it")
+    file(sys.argv[2], "LIBRS is a file of " + PUBLISHED)
 rng = random.Random(2026)
 asked, wanted = [], []
 

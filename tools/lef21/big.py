@@ -2,7 +2,7 @@
 """big.py [BYTES [SEED]]: prints a standard-cell library of at most so many bytes, and little less: by default 16,777,216, which
 is the most that is read. The cells are drawn by the seed, with pins, rails and obstructions in the manner of published 45 and 130 nm
 libraries, coordinates on a grid of 2.5 nm. Every statement is in force: the original keeps as many things as there are records."""
-import itertools, random, sys
+import argparse, itertools, random, sys
 
 FUNCTIONS = """INV BUF NAND2 NAND3 NAND4 NOR2 NOR3 NOR4 AND2 AND3 AND4 OR2 OR3 OR4 XOR2 XNOR2 AOI21 AOI22 AOI211 AOI221
  AOI222 OAI21 OAI22 OAI211 OAI221 OAI222 MUX2 MUX4 HA FA DFF DFFR DFFS DFFRS SDFF SDFFR SDFFRS DLH DLL CLKBUF
@@ -103,5 +103,8 @@ class Cells:
 
 
 if __name__ == "__main__":
-    size, seed = map(int, sys.argv[1:] + ["16777216", "2026"][len(sys.argv) - 1 :])
-    sys.stdout.write(Cells(seed).library(size))
+    p = argparse.ArgumentParser(description=__doc__, formatter_class=argparse.RawDescriptionHelpFormatter)
+    p.add_argument("bytes", type=int, nargs="?", default=16777216)
+    p.add_argument("seed", type=int, nargs="?", default=2026)
+    args = p.parse_args()
+    sys.stdout.write(Cells(args.seed).library(args.bytes))
