@@ -237,9 +237,57 @@ static void look_ups(void) {
     expect("its length", len, 0);
 }
 
+/* A null pointer is taken where the length beside it is 0, by every call. */
+static void nulls(void) {
+    uint64_t a, b, c, place, line;
+    expect("no text", lef_read(NULL, 0, NULL, 0, &place, &line), LEF_WRONG_TOKEN);
+    expect("its line", line, 1);
+    expect("no records", lef_read(bytes("END LIBRARY"), 11, NULL, 0, &place, &line), LEF_DONE);
+    expect("records that are counted", lef_read(bytes(SITE), strlen(SITE), NULL, 0, &place, &line), LEF_RECORD_ROOM);
+    expect("their count", place, 3);
+    expect("an empty file", lef_check(bytes("END LIBRARY"), 11, NULL, 0, &place, &line), LEF_DONE);
+    expect("an empty file of three", lef_check(bytes(SITE), strlen(SITE), NULL, 0, &place, &line), LEF_LACKING);
+    expect("no text to check", lef_check(NULL, 0, NULL, 0, &place, &line), LEF_WRONG_TOKEN);
+    expect("bytes that are counted", lef_write(bytes("END LIBRARY"), 11, NULL, 0, NULL, 0, &place, &line), LEF_TEXT_ROOM);
+    expect("their count", place, 12);
+    expect("no text to write", lef_write(NULL, 0, NULL, 0, NULL, 0, &place, &line), LEF_WRONG_TOKEN);
+    expect("no text to lex", lef_token(NULL, 0, 0, &a, &b, &c, &place, &line), LEF_DONE);
+    expect("its end", a, LEF_TOKEN_END);
+    expect("none in force", lef_in_force(NULL, 0, 0, LEF_SIZE, 0, &a, &place, &line), LEF_DONE);
+    expect("its index", a, UINT64_MAX);
+    expect("no owners", lef_owners(NULL, 0, 0, &a, &place, &line), LEF_DONE);
+    expect("their count", a, 0);
+    expect("no name", lef_name(NULL, 0, NULL, 0, 0, &a, &b), LEF_DONE);
+    expect("its length", b, 0);
+}
+
+/* The fields of a record as the header reads them, at a place that no word is aligned to. */
+static void fields(void) {
+    static const uint8_t file[] = {0,    34,   26,   0,    0,    0x78, 0x56, 0x34, 0x12, 0xff, 0xff, 0xff, 0xff, 0x01, 0x02, 0x03, 0x84, 0x21, 0x00,
+                                   0x00, 0x00, 0xff, 0xff, 0xff, 0xff, 0xff, 0xff, 0xff, 0xff, 0x00, 0x00, 0x00, 0x00, 0x00, 0x00, 0x00, 0x80};
+    const uint8_t *record = file + 1;
+    expect("kind", lef_record_kind(record), LEF_VIA);
+    expect("code", lef_record_code(record), 26);
+    expect("at", lef_record_at(record), 0x12345678);
+    expect("owner", lef_record_owner(record), LEF_LIBRARY);
+    expect("name start", lef_record_name_start(record), 0x84030201);
+    expect("name length", lef_record_name_length(record), 33);
+    expect("x", lef_record_x(record) == -1, 1);
+    expect("y", lef_record_y(record) == INT64_MIN, 1);
+    expect("the greatest", lef_signed(INT64_MAX) == INT64_MAX, 1);
+    expect("no bytes", lef_number(NULL, 0), 0);
+}
+
+/* The version as a text and as a number. */
+static void version(void) {
+    unsigned first, second, third;
+    expect("three parts", (uint64_t)sscanf(LEF_H_VERSION, "%u.%u.%u", &first, &second, &third), 3);
+    expect("the same number", 10000 * first + 100 * second + third, LEF_H_NUMBER);
+}
+
 static void accident(void) {
-    static const unsigned should[] = {3, 4, 0, 5};
-    unsigned by_short[8], by_wide[8];
+    static const uint8_t should[] = {3, 4, 0, 5};
+    uint8_t by_short[8], by_wide[8];
     uint64_t n, line;
     size_t i;
     reads(PINS, sizeof buffer, &n, &line);
@@ -260,6 +308,9 @@ int main(void) {
     writing();
     tokens();
     look_ups();
+    nulls();
+    fields();
+    version();
     accident();
     printf("border: %d tried, %d wrong\n", tried, wrong);
     return wrong != 0;

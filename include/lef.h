@@ -3,10 +3,11 @@
  * Every call returns the number of a refusal, or LEF_DONE, and leaves its other results behind the pointers given. A call that is
  * refused has changed no buffer. The numbers, places and lines are those of the table "The refusals" below.
  *
- * What a caller owes: each pointer to a buffer points to as many bytes as the length beside it says, and is not null even where that
- * length is 0; each pointer to a number points to a uint64_t; a buffer or number that is written overlaps nothing else that is handed
- * to the same call. The calls keep no state and allocate nothing, so that any threads may call them at once. A call takes up to one
- * megabyte of stack.
+ * What a caller owes: each pointer to a buffer points to as many bytes as the length beside it says, and may be null where that length
+ * is 0; each pointer to a number points to a uint64_t; a buffer or number that is written overlaps nothing else that is handed to the
+ * same call. The calls keep no state and allocate nothing, so that any threads may call them at once.
+ *
+ * What a call costs stands with it: how often it passes over what it is lent. None takes more stack than its constant says.
  */
 #ifndef LEF_H
 #define LEF_H
@@ -18,10 +19,22 @@
 extern "C" {
 #endif
 
+/* The version of this header and of the library, which `lef --version` and lef.pc say as well, and the same as one number: 10000 for
+ * the first part, 100 for the second. LEF_VERSION, below, is a kind of record and says nothing of the library. */
+#define LEF_H_VERSION "1.0.0"
+#define LEF_H_NUMBER 10000
+
 /* The longest text that is read, in bytes. */
 #define LEF_TEXT_LIMIT 16777216u
 
-/* A record: 36 bytes, little-endian, one after the other with no header. Where each field starts, and what it is. */
+/* A record: 36 bytes, little-endian, one after the other with no header. Where each field starts, and what it is; the functions
+ * lef_record_.. read them. Fields that a kind does not use are 0.
+ *
+ * Lengths and places on the chip are in millionths of a micron: `SIZE 0.38 BY 1.4 ;` has x 380000 and y 1400000. Other numbers are in
+ * millionths as well: VERSION 5.8 is 5800000.
+ *
+ * In a reading no two records have the same `at`. So the record that encloses another is the one whose `at` is the other's owner; it
+ * stands before it, and in a file by rising `at`, as lef_read leaves it, it is found by bisection. */
 #define LEF_RECORD_SIZE 36u
 #define LEF_KIND 0u         /* 8 bits */
 #define LEF_CODE 1u         /* 8 bits */
@@ -30,11 +43,50 @@ extern "C" {
 #define LEF_OWNER 8u        /* 32 bits: `at` of the record that encloses it, or LEF_LIBRARY */
 #define LEF_NAME_START 12u  /* 32 bits: where the name starts in the text */
 #define LEF_NAME_LENGTH 16u /* 32 bits: how many bytes it has */
-#define LEF_X 20u           /* 64 bits, two's complement: millionths */
-#define LEF_Y 28u           /* 64 bits, two's complement: millionths */
+#define LEF_X 20u           /* 64 bits, two's complement: millionths, of a micron where it is a length */
+#define LEF_Y 28u           /* the same */
 
 /* The owner of a record that no other encloses. */
 #define LEF_LIBRARY 4294967295u
+
+/* The number of n bytes, the lowest first. */
+static inline uint64_t lef_number(const uint8_t *bytes, unsigned n) {
+    uint64_t number = 0;
+    while (n-- > 0)
+        number = number << 8 | bytes[n];
+    return number;
+}
+
+/* The number that 64 bits are in two's complement. */
+static inline int64_t lef_signed(uint64_t word) {
+    return word >> 63 == 0 ? (int64_t)word : -1 - (int64_t)~word;
+}
+
+/* The fields of the record that starts at a byte, wherever that lies: no alignment is asked, and nothing is cast. */
+static inline uint32_t lef_record_kind(const uint8_t *record) {
+    return record[LEF_KIND];
+}
+static inline uint32_t lef_record_code(const uint8_t *record) {
+    return record[LEF_CODE];
+}
+static inline uint32_t lef_record_at(const uint8_t *record) {
+    return (uint32_t)lef_number(record + LEF_AT, 4);
+}
+static inline uint32_t lef_record_owner(const uint8_t *record) {
+    return (uint32_t)lef_number(record + LEF_OWNER, 4);
+}
+static inline uint32_t lef_record_name_start(const uint8_t *record) {
+    return (uint32_t)lef_number(record + LEF_NAME_START, 4);
+}
+static inline uint32_t lef_record_name_length(const uint8_t *record) {
+    return (uint32_t)lef_number(record + LEF_NAME_LENGTH, 4);
+}
+static inline int64_t lef_record_x(const uint8_t *record) {
+    return lef_signed(lef_number(record + LEF_X, 8));
+}
+static inline int64_t lef_record_y(const uint8_t *record) {
+    return lef_signed(lef_number(record + LEF_Y, 8));
+}
 
 /* The kinds of records, with the fields that they use beside `at` and owner. */
 #define LEF_VERSION               1u   /* x */
@@ -98,31 +150,52 @@ extern "C" {
 #define LEF_WRONG_RECORD          14u  /* the index of the record that is foreign, or equal to an earlier one */
 #define LEF_LACKING               15u  /* the `at` of the record that is lacking */
 
+/* How many bytes of stack each call takes at most, on x86-64. */
+#define LEF_READ_STACK 8192u
+#define LEF_CHECK_STACK 655360u
+#define LEF_WRITE_STACK 655360u
+#define LEF_TOKEN_STACK 1024u
+#define LEF_IN_FORCE_STACK 1024u
+#define LEF_OWNERS_STACK 1024u
+#define LEF_NAME_STACK 1024u
+
 /* Reads the text: its records, by rising `at`, from the front of the buffer; the rest of the buffer keeps its bytes. *place is the
- * count of records. 11 says how many there are where the buffer has no room for all of them: a buffer of length 0 counts them. */
+ * count of records. 11 says how many there are where the buffer has no room for all of them: a buffer of length 0 counts them.
+ * Passes over the text twice, once to count. */
 uint64_t lef_read(const uint8_t *text, size_t text_len, uint8_t *records, size_t records_len, uint64_t *place, uint64_t *line);
 
-/* Accepts the record file exactly where it holds the records of the reading, each once and no others, in any order. */
+/* Accepts the record file exactly where it holds the records of the reading, each once and no others, in any order.
+ * Passes over text and file once where the file has the reading's order, and else over the text once more and over the file once for
+ * each 16,384 records of the text. */
 uint64_t lef_check(const uint8_t *text, size_t text_len, const uint8_t *records, size_t records_len, uint64_t *place, uint64_t *line);
 
 /* Writes the records of a file that lef_check accepts as canonical text, from the front of `out`; the rest of `out` keeps its bytes.
- * *place is the count of bytes. 12 says how many there are where `out` has no room for all of them. */
+ * *place is the count of bytes. 12 says how many there are where `out` has no room for all of them. That text may be longer than
+ * LEF_TEXT_LIMIT, and is then written but not read back.
+ * Checks, and then passes over the text twice, once to count. */
 uint64_t lef_write(const uint8_t *text, size_t text_len, const uint8_t *records, size_t records_len, uint8_t *out, size_t out_len, uint64_t *place,
                    uint64_t *line);
 
 /* The first token from the place `from` on: its kind (LEF_TOKEN_END: the end of the text), where it starts and the place after it.
- * Lines are counted from 1 at `from`. Refused 1, 2 or 3. */
+ * A `from` past the text counts as its end. Lines are counted from 1 at `from`. Refused 1, 2 or 3.
+ * Looks the whole text over for refusal 2, from its start, at each call: to have all tokens of a long text, lend it window by window. */
 uint64_t lef_token(const uint8_t *text, size_t text_len, uint64_t from, uint64_t *kind, uint64_t *start, uint64_t *stop, uint64_t *place, uint64_t *line);
 
 /* The index of the record in force: of those with the owner and the kind (and the code, for LEF_LAYER_OPTION, where 2 and 3 count as
- * one) the one with the greatest `at`; UINT64_MAX where there is none, for kinds that all count, and on a refusal. Refused 13. */
+ * one) the one with the greatest `at`, and of several with that `at`, which no reading has, the first in the file. UINT64_MAX where
+ * there is none, on a refusal, and for the kinds that all count: LEF_SITE, LEF_SYMMETRY_WORD, LEF_MACRO, LEF_PIN, LEF_ANTENNA,
+ * LEF_PORT, LEF_LAYER, LEF_RECT, LEF_POLYGON, LEF_PATH, LEF_POINT and LEF_VIA. Refused 13.
+ * Passes over the whole file at each call: for many owners, pass over the file yourself once. */
 uint64_t lef_in_force(const uint8_t *records, size_t records_len, uint64_t owner, uint64_t kind, uint64_t code, uint64_t *index, uint64_t *place, uint64_t *line);
 
-/* How many owners the record at the index has, from the one that encloses it out to the library's. Refused 13. */
+/* How many owners the record at the index has, from the one that encloses it out to the library's; 0 for an index past the file. An
+ * owner that is not below its record's `at`, or that no record has, ends the count; of several records with the owner's `at` the first
+ * in the file is taken. Refused 13.
+ * Passes over the file up to each owner at each call. */
 uint64_t lef_owners(const uint8_t *records, size_t records_len, uint64_t index, uint64_t *count, uint64_t *place, uint64_t *line);
 
-/* The name of the record at the index, as a part of the text: *len is 0 where it has none or its span reaches outside the text. Never
- * refused. */
+/* The name of the record at the index, as a part of the text: *len is 0 where it has none, for an index past the file, and where its
+ * span reaches outside the text. Never refused. Takes the same time whatever it is lent. */
 uint64_t lef_name(const uint8_t *text, size_t text_len, const uint8_t *records, size_t records_len, uint64_t index, uint64_t *start, uint64_t *len);
 
 #ifdef __cplusplus
