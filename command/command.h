@@ -115,6 +115,9 @@ struct fault {
 
 struct fault fault_of(struct bytes text, struct refusal r);
 
+/* Whether the token is a string that no quote ends. */
+int is_unclosed(struct bytes text, struct token t);
+
 /* ---- shown.c: the lines of a text around a place. */
 
 /* Where the place's line starts, and its number, all newlines counted. */

@@ -89,33 +89,44 @@ static void walk(struct bytes text, uint64_t place, struct standing last[KEPT], 
     }
 }
 
-/* Where the text ends with a token, that token or the end may be held; what is held makes room for nothing more. */
+/* Where the text ends with a token, that token or the end may be held; what is behind the one held changes nothing. */
 static int is_end_held(struct trial t, uint64_t place) {
     struct refusal r = tried(t, place, "\n; ;");
     return r.number != t.wanted.number || r.place != place;
+}
+
+/* Goes back from the token held, which is the last, to the one at fault: its index. */
+static int found(struct bytes text, struct trial t, const struct standing last[KEPT]) {
+    int i = KEPT - 1;
+    while (i > 1 && last[i - 1].nth > 0 && is_innocent(text, t, last[i].token.start))
+        i--;
+    /* a number of VERSION or MICRONS is judged after its semicolon */
+    return t.wanted.number == LEF_NOT_ALLOWED && i < KEPT - 1 && last[i].token.kind == LEF_TOKEN_SEMICOLON ? i - 1 : i;
+}
+
+int is_unclosed(struct bytes text, struct token t) {
+    return t.kind == LEF_TOKEN_STRING && (t.stop == t.start + 1 || text.at[t.stop - 1] != '"');
 }
 
 struct fault fault_of(struct bytes text, struct refusal r) {
     struct trial t = {{malloc(r.place + ROOM), r.place}, r};
     struct standing last[KEPT];
     struct fault f;
-    int i = KEPT - 1;
+    int i = KEPT - 1, is_open;
     uint64_t site = 0;
     if (t.text.at == NULL)
         exit(failed("no memory", "the text refused"));
     memcpy(t.text.at, text.at, r.place);
     walk(text, r.place, last, &site);
-    if (r.place == text.len && last[i].token.kind != LEF_TOKEN_END && is_end_held(t, r.place)) {
+    /* nothing can be put behind a string that runs to the end of the text, and it is at fault whatever is complained of */
+    is_open = is_unclosed(text, last[i].token);
+    if (!is_open && r.place == text.len && last[i].token.kind != LEF_TOKEN_END && is_end_held(t, r.place)) {
         struct token end = {LEF_TOKEN_END, text.len, text.len, r.line};
         memmove(last, last + 1, (KEPT - 1) * sizeof *last);
         last[i] = after(text, last[i - 1], end);
     }
     f.held = last[i].token;
-    while (i > 1 && last[i - 1].nth > 0 && is_innocent(text, t, last[i].token.start))
-        i--;
-    /* a number of VERSION or MICRONS is judged after its semicolon */
-    if (r.number == LEF_NOT_ALLOWED && i < KEPT - 1 && last[i].token.kind == LEF_TOKEN_SEMICOLON)
-        i--;
+    i = is_open ? i : found(text, t, last);
     f.token = last[i].token;
     f.statement = r.number == LEF_SITE_LACKS ? site : last[i].nth == 0 ? f.token.start : last[i].statement;
     f.is_unread = r.number == LEF_NOT_SUPPORTED ||

@@ -48,7 +48,7 @@ static const char *standing(struct bytes text, uint64_t place) {
         return "in a comment";
     if (last.stop == place && last.kind == LEF_TOKEN_NAME && place > 0)
         return "in a name";
-    if (last.stop == place && last.kind == LEF_TOKEN_STRING && (last.start + 1 == place || text.at[place - 1] != '"'))
+    if (last.stop == place && is_unclosed(text, last))
         return "in a string";
     return "between tokens";
 }
@@ -85,6 +85,8 @@ static void add_fault(struct sheet *s, struct scene c, struct bytes text) {
     else
         add(s, NOTE "refused is ");
     add_token(s, text, c.fault.token);
+    if (is_unclosed(text, c.fault.token))
+        add(s, ", whose quote is not closed");
     if (c.fault.token.start != c.fault.held.start && c.fault.held.kind == LEF_TOKEN_END)
         add(s, "; the text ends at the caret");
     else if (c.fault.token.start != c.fault.held.start) {
