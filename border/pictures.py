@@ -24,8 +24,8 @@ def numbers_behind(words):
 
 
 def shapes(words):
-    """The shapes as kind, numbers and pin, or None for an obstruction; the layers; the size; and the box that the outline has on the chip."""
-    found, layers, size, origin, pin = [], [], None, (0.0, 0.0), None
+    """The shapes as kind, numbers, pin, or None for an obstruction, and width of a path; the layers; the size; and the outline's box on the chip."""
+    found, layers, size, origin, pin, width = [], [], None, (0.0, 0.0), None, 0
     for i, w in enumerate(words):
         numbers = numbers_behind(words[i + 1 :])
         if w == "PIN":
@@ -34,12 +34,15 @@ def shapes(words):
             pin = None
         elif w == "LAYER" and words[i + 2] == ";":
             layers += [words[i + 1]] * (words[i + 1] not in layers)
+            width = 0
+        elif w == "WIDTH":
+            width = numbers[0]
         elif w == "SIZE":
             size = float(words[i + 1]), float(words[i + 3])
         elif w == "ORIGIN":
             origin = tuple(numbers)
         elif w in ("RECT", "POLYGON", "PATH", "VIA") and numbers:
-            found.append((w, numbers, pin))
+            found.append((w, numbers, pin, width if w == "PATH" else 0))
     return found, layers, size, size and (-origin[0], -origin[1], size[0] - origin[0], size[1] - origin[1])
 
 
@@ -66,7 +69,7 @@ def shown(name):
 def names(root, found, layers, size, name):
     texts, titles = (["".join(t.itertext()) for t in root.iter(SVG + tag)] for tag in ("text", "title"))
     assert titles[0] == name and name in texts
-    for pin in {pin for _, _, pin in found if pin}:
+    for pin in {pin for _, _, pin, _ in found if pin}:
         assert shown(pin) in texts and any(t.split(",")[0] == "pin " + shown(pin) for t in titles), pin
     for layer in layers[:47]:
         assert shown(layer) in texts, layer
@@ -74,20 +77,33 @@ def names(root, found, layers, size, name):
     assert not size or any(t.startswith("%s × %s µm" % tuple(("%.6f" % s).rstrip("0").rstrip(".") for s in size)) for t in texts)
 
 
+def is_at(paths, kind, numbers, frame, box):
+    """Whether one of the paths stands where the numbers put the shape."""
+    if kind == "RECT":
+        (x, u), (y, v) = sorted(numbers[::2]), sorted(numbers[1::2])
+        numbers = [x, v, u, v, u, y, x, y]
+    return any(placed(points(d), numbers, frame, box) for d in paths)
+
+
 def main(lef, name, picture):
     found, layers, size, box = shapes(macro_of(open(lef, "rb").read(), name.encode()))
     root = tree.parse(picture).getroot()
     names(root, found, layers, size, name)
-    paths = [(p.get("class"), p.get("d")) for p in root.iter(SVG + "path")]
-    frames = [d for c, d in paths if c == "ink" and d.endswith("Z")]
+    paths = [(p.get("class"), p.get("d"), p.get("style")) for p in root.iter(SVG + "path")]
+    frames = [d for c, d, _ in paths if c == "ink" and d.endswith("Z")]
     assert len(frames) == (1 if box else 0)
-    drawn = [(c, d) for c, d in paths if re.fullmatch(r"(pin|obs)\d+( line| via)?", c) and not re.fullmatch(r"M\d+ \d+h22v12h-22z", d)]
+    drawn = [(c, d) for c, d, _ in paths if re.fullmatch(r"(pin|obs)\d+( line| via)?", c) and not re.fullmatch(r"M\d+ \d+h22v12h-22z", d)]
+    wide = [(c, d, float(style.split(":")[1])) for c, d, style in paths if c.endswith(" wide")]
     assert len(drawn) == len(found), (len(drawn), len(found))
-    for kind, numbers, pin in found if box and box[0] != box[2] else []:
-        if kind == "RECT":
-            (x, u), (y, v) = sorted(numbers[::2]), sorted(numbers[1::2])
-            numbers = [x, v, u, v, u, y, x, y]
-        assert any(c.startswith("pin" if pin else "obs") and placed(points(d), numbers, span(points(frames[0])), box) for c, d in drawn), (kind, numbers)
+    assert len(wide) == sum(width > 0 for _, _, _, width in found)
+    if not box or box[0] == box[2]:
+        return
+    frame = span(points(frames[0]))
+    scale = (frame[2] - frame[0]) / abs(box[2] - box[0])
+    for kind, numbers, pin, width in found:
+        use = "pin" if pin else "obs"
+        assert is_at([d for c, d in drawn if c.startswith(use)], kind, numbers, frame, box), (kind, numbers)
+        assert not width or is_at([d for c, d, w in wide if c.startswith(use) and abs(w - width * scale) < 0.05], kind, numbers, frame, box), (numbers, width)
 
 
 if __name__ == "__main__":

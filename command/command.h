@@ -152,6 +152,9 @@ void add_fields(struct sheet *s, const uint8_t *record);
 /* ---- listing.c: the records and the tokens of a text. */
 enum listing { FIELDS, WORDS };
 
+/* Whether all that was printed went out: DONE or FAILED. */
+int printed(void);
+
 int list_records(struct bytes text, struct bytes records, enum listing form);
 int list_tokens(struct asked a);
 

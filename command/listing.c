@@ -15,7 +15,7 @@ static void flush(struct sheet *s, int is_last) {
         free(s->text.at);
 }
 
-static int printed(void) {
+int printed(void) {
     return fflush(stdout) == 0 && !ferror(stdout) ? DONE : failed("cannot write", "standard output");
 }
 

@@ -162,7 +162,7 @@ static int help(void) {
            "A file given as - is standard input or standard output; -- ends the options. A file is written only when it is whole, and never\n"
            "over an input; what is no regular file is written through.\n"
            "Exit status: 0 done, 1 refused (the refusal is said on standard error), 2 wrong usage or a system error.\n");
-    return DONE;
+    return printed();
 }
 
 /* Names the fault of a call, and says what the verb takes, or which verbs there are. */
@@ -228,8 +228,10 @@ int main(int argc, char **argv) {
     int n, takes;
     if (argc == 2 && (strcmp(argv[1], "--help") == 0 || strcmp(argv[1], "-h") == 0))
         return help();
-    if (argc == 2 && strcmp(argv[1], "--version") == 0)
-        return printf("lef %s\n", LEF_H_VERSION) > 0 ? DONE : FAILED;
+    if (argc == 2 && strcmp(argv[1], "--version") == 0) {
+        printf("lef %s\n", LEF_H_VERSION);
+        return printed();
+    }
     n = sort_words(argc, argv, words, 5);
     if (n < 0)
         return FAILED;
