@@ -57,6 +57,8 @@ def constants():
     for name in sorted(set(DEFINED) | set(ours)):
         if name != "H_NUMBER" and not name.startswith("TOKEN_") and not name.endswith("_STACK"):
             expect(name, ours.get(name), DEFINED.get(name))
+    said = re.search(r"WHY\[\] = \{(.*?)\};", of_repository("command", "refusals.c").decode("ascii"), re.S)[1]
+    expect("the words of refusals, as the command has them", list(lef.WORDS), re.findall(r'"(.*?)"', said))
     expect("version", lef.version, re.search(r'^#define LEF_H_VERSION "(.*)"$', HEADER, re.M)[1])
 
 

@@ -9,7 +9,7 @@
 static enum listing form = FIELDS;
 
 /* What the verb is asked about, kept up to the end of the program. */
-static struct asked a;
+static struct asked asked;
 
 /* ---- the verbs */
 
@@ -31,21 +31,21 @@ struct refusal read_records(struct bytes text, struct bytes *records) {
 /* Loads a text and reads it. */
 static int read_text(const char *name) {
     struct refusal r;
-    int status = load(name, LEF_TEXT_LIMIT, &a.text);
-    a.text_name = name;
-    a.file_name = "";
+    int status = load(name, LEF_TEXT_LIMIT, &asked.text);
+    asked.text_name = name;
+    asked.file_name = "";
     if (status != DONE)
         return status;
-    r = read_records(a.text, &a.file);
-    return r.number == LEF_DONE ? DONE : refused(r, a);
+    r = read_records(asked.text, &asked.file);
+    return r.number == LEF_DONE ? DONE : refused(r, asked);
 }
 
 /* Loads a text and a record file. */
 static int load_both(char **names) {
-    int status = load(names[0], LEF_TEXT_LIMIT, &a.text);
-    a.text_name = names[0];
-    a.file_name = names[1];
-    return status == DONE ? load(names[1], RECORDS_LIMIT, &a.file) : status;
+    int status = load(names[0], LEF_TEXT_LIMIT, &asked.text);
+    asked.text_name = names[0];
+    asked.file_name = names[1];
+    return status == DONE ? load(names[1], RECORDS_LIMIT, &asked.file) : status;
 }
 
 /* Writes the records of a file as text, and warns where that is too long to be read again. */
@@ -53,16 +53,16 @@ static int write_text(const char *name) {
     struct refusal r;
     struct bytes out = {NULL, 0};
     int status;
-    r.number = lef_write(a.text.at, a.text.len, a.file.at, a.file.len, NULL, 0, &r.place, &r.line);
+    r.number = lef_write(asked.text.at, asked.text.len, asked.file.at, asked.file.len, NULL, 0, &r.place, &r.line);
     if (r.number == LEF_TEXT_ROOM) {
         out.len = r.place;
         out.at = malloc(out.len);
         if (out.at == NULL)
             return failed("no memory", name);
-        r.number = lef_write(a.text.at, a.text.len, a.file.at, a.file.len, out.at, out.len, &r.place, &r.line);
+        r.number = lef_write(asked.text.at, asked.text.len, asked.file.at, asked.file.len, out.at, out.len, &r.place, &r.line);
     }
     if (r.number != LEF_DONE)
-        return refused(r, a);
+        return refused(r, asked);
     status = store(name, out);
     free(out.at);
     if (status == DONE && out.len > LEF_TEXT_LIMIT)
@@ -72,7 +72,7 @@ static int write_text(const char *name) {
 
 static int do_read(char **names) {
     int status = read_text(names[0]);
-    return status == DONE ? store(names[1], a.file) : status;
+    return status == DONE ? store(names[1], asked.file) : status;
 }
 
 static int do_check(char **names) {
@@ -80,8 +80,8 @@ static int do_check(char **names) {
     int status = load_both(names);
     if (status != DONE)
         return status;
-    r.number = lef_check(a.text.at, a.text.len, a.file.at, a.file.len, &r.place, &r.line);
-    return r.number == LEF_DONE ? DONE : refused(r, a);
+    r.number = lef_check(asked.text.at, asked.text.len, asked.file.at, asked.file.len, &r.place, &r.line);
+    return r.number == LEF_DONE ? DONE : refused(r, asked);
 }
 
 static int do_write(char **names) {
@@ -97,13 +97,13 @@ static int do_format(char **names) {
 
 static int do_list(char **names) {
     int status = read_text(names[0]);
-    return status == DONE ? list_records(a.text, a.file, form) : status;
+    return status == DONE ? list_records(asked.text, asked.file, form) : status;
 }
 
 static int do_tokens(char **names) {
-    int status = load(names[0], LEF_TEXT_LIMIT, &a.text);
-    a.text_name = names[0];
-    return status == DONE ? list_tokens(a) : status;
+    int status = load(names[0], LEF_TEXT_LIMIT, &asked.text);
+    asked.text_name = names[0];
+    return status == DONE ? list_tokens(asked) : status;
 }
 
 static int do_svg(char **names) {
@@ -111,7 +111,7 @@ static int do_svg(char **names) {
     int status = read_text(names[0]);
     if (status != DONE)
         return status;
-    if (!draw(&s, a.text, a.file, names[1])) {
+    if (!draw(&s, asked.text, asked.file, names[1])) {
         fprintf(stderr, "lef: %s: it has no macro %s\n", names[0], names[1]);
         return FAILED;
     }
