@@ -105,12 +105,12 @@ int is_unread(struct bytes text, struct token t, int at_library_level);
 
 /* ---- fault.c */
 
-/* The token held ahead of a refusal from 4 to 10, the token at fault, where the statement starts that has it, and whether it is legal LEF
- * that this library does not read. */
+/* The token held ahead of a refusal from 4 to 10, the token at fault, where the statement starts that has it, whether END LIBRARY could stand
+ * in its place, and whether it is legal LEF that this library does not read. */
 struct fault {
     struct token held, token;
     uint64_t statement;
-    int is_unread;
+    int is_at_library_level, is_unread;
 };
 
 struct fault fault_of(struct bytes text, struct refusal r);

@@ -129,8 +129,8 @@ struct fault fault_of(struct bytes text, struct refusal r) {
     i = is_open ? i : found(text, t, last);
     f.token = last[i].token;
     f.statement = r.number == LEF_SITE_LACKS ? site : last[i].nth == 0 ? f.token.start : last[i].statement;
-    f.is_unread = r.number == LEF_NOT_SUPPORTED ||
-                  (r.number <= LEF_OTHER_WORD && is_unread(text, f.token, is_at_library_level(t, f.token.start)));
+    f.is_at_library_level = !is_open && is_at_library_level(t, f.token.start);
+    f.is_unread = r.number == LEF_NOT_SUPPORTED || (r.number <= LEF_OTHER_WORD && is_unread(text, f.token, f.is_at_library_level));
     free(t.text.at);
     return f;
 }

@@ -70,13 +70,26 @@ struct scene {
 };
 
 static struct scene scene_of(struct refusal r, struct bytes text) {
-    struct scene s = {r, line_of(text, r.place), r.place - line_start(text, r.place) + 1, {FIRST_TOKEN, FIRST_TOKEN, r.place, 0}};
+    struct scene s = {r, line_of(text, r.place), r.place - line_start(text, r.place) + 1, {FIRST_TOKEN, FIRST_TOKEN, r.place, 0, 0}};
     if (LEF_WRONG_TOKEN <= r.number && r.number <= LEF_SITE_LACKS)
         s.fault = fault_of(text, r);
     return s;
 }
 
 #define NOTE "       = "
+
+/* Adds what helps where a fault is a common one. */
+static void add_advice(struct sheet *s, struct scene c, struct bytes text) {
+    struct token t = c.fault.token;
+    if (c.r.number == LEF_NOT_A_NUMERAL)
+        add(s, NOTE "a number has a digit, one point at most and six decimals that count, and is within 10,000,000\n");
+    if (c.r.number == LEF_NOT_A_KEY && spells(text, t, "NAMESCASESENSITIVE"))
+        add(s, NOTE "it is read up to VERSION 5.4, and where no VERSION stands before it 5.8 holds\n");
+    if (t.kind == LEF_TOKEN_NAME && t.stop > t.start + 1 && text.at[t.stop - 1] == ';')
+        add(s, NOTE "a name runs to the next blank; a semicolon that ends a statement has a blank before it\n");
+    if (t.kind == LEF_TOKEN_END && c.fault.is_at_library_level)
+        add(s, NOTE "a text ends with END LIBRARY\n");
+}
 
 /* Adds which token is refused, and which is held ahead, where that is another. */
 static void add_fault(struct sheet *s, struct scene c, struct bytes text) {
@@ -95,10 +108,7 @@ static void add_fault(struct sheet *s, struct scene c, struct bytes text) {
         add(s, ", which was held ahead");
     }
     add(s, "\n");
-    if (c.r.number == LEF_NOT_A_NUMERAL)
-        add(s, NOTE "a number has a digit, one point at most and six decimals that count, and is within 10,000,000\n");
-    if (c.r.number == LEF_NOT_A_KEY && spells(text, c.fault.token, "NAMESCASESENSITIVE"))
-        add(s, NOTE "it is read up to VERSION 5.4, and where no VERSION stands before it 5.8 holds\n");
+    add_advice(s, c, text);
 }
 
 /* Adds what the byte or the token at the caret is. */
@@ -215,7 +225,7 @@ int refused(struct refusal r, struct asked a) {
     struct sheet s = {{NULL, 0}, 0};
     int is_of_text = r.number < LEF_NOT_WHOLE;
     const char *name = is_of_text ? a.text_name : a.file_name;
-    struct scene c = {r, 0, 0, {FIRST_TOKEN, FIRST_TOKEN, 0, 0}};
+    struct scene c = {r, 0, 0, {FIRST_TOKEN, FIRST_TOKEN, 0, 0, 0}};
     if (is_of_text && r.number != LEF_TOO_LONG)
         c = scene_of(r, a.text);
     if (in_json) {
