@@ -3,7 +3,7 @@ use Prim.Native.Nat.{ℕ, zero, suc, _*_, _/_, _%_, _≤_}
 use native.Mathlib.Nat.{le-of-suc-le-suc, not-suc-le-zero}
 use native.Mathlib.Omega.{arith}
 use mathlib.Core.Path.{_≡_, sym, ap, _∙_}
-use mathlib.Core.Bool.{true, false, false≢true}
+use mathlib.Core.Bool.{Bool, true, false, false≢true}
 use mathlib.Core.List.{List, [], _∷_}
 use lib.ListN.{length, length-replicate, replicate}
 use lib.Seq.{ext-getD}
@@ -71,6 +71,11 @@ module _ (s : List ℕ) (st : State) (from : reading s ≡ readFrom s st) where
       → (rs : List Record) → Reads s st rs → r ≡ checked (reading s) file
   judged file r h rs q = h rs (q .gives) ∙ sym (ap (λ o. checked o file) (from ∙ q .gives))
 
+  -- and its records are those that the file holds
+  pub judged-held : (file : List ℕ) (same : Bool) → ((rs : List Record) → readFrom s st ≡ records rs → same ≡ true → rs ≡ held file)
+      → (rs : List Record) → Reads s st rs → same ≡ true → reading s ≡ records (held file)
+  judged-held file same h rs q e = from ∙ q .gives ∙ ap records (h rs (q .gives) e)
+
 -- 13, or the verdict
 pub not-whole-says : (rs : List Record) (file : List ℕ) → (length file % 36 ≡ 0 → ⊥) → checked (records rs) file ≡ refused notWhole (length file) 0
 not-whole-says rs file h = rw (ne-eqb (length file % 36) 0 h)
@@ -79,12 +84,16 @@ pub whole-says : (rs : List Record) (file : List ℕ) → length file % 36 ≡ 0
 whole-says rs file h = rw (eq-eqb (length file % 36) 0 h)
 
 -- a file in the reading's own order
-pub same-done : (s : List ℕ) (st : State) (file : List ℕ) (ps : List Record) → Reads s st ps → InOrder ps file
-    → (rs : List Record) → readFrom s st ≡ records rs → verdict rs (held file) ≡ refused done 0 0
-same-done s st file ps q io rs e =
-    let z = io (q .fit) in
-    let n = length file / 36 in
-    let equal : held file ≡ ps
-    = ext-getD blank (held file) ps (held-length file ∙ z .0) (λ i h. front-at n file blank i (rw (held-length file) at h) ∙ z .1 i (omega (arith, held-length file, z .0))) in
-    let one : ps ≡ rs = same-records ps rs (sym (q .gives) ∙ e) in
-    rw one at (verdict-in-order ps (held file) (q .rises) equal)
+module _ (s : List ℕ) (st : State) (file : List ℕ) (ps : List Record) (q : Reads s st ps) (io : InOrder ps file) (rs : List Record) (e : readFrom s st ≡ records rs) where
+  pub same-held : rs ≡ held file
+  same-held =
+      let z = io (q .fit) in
+      let n = length file / 36 in
+      let equal : held file ≡ ps
+      = ext-getD blank (held file) ps (held-length file ∙ z .0) (λ i h. front-at n file blank i (rw (held-length file) at h) ∙ z .1 i (omega (arith, held-length file, z .0))) in
+      sym (equal ∙ same-records ps rs (sym (q .gives) ∙ e))
+
+  pub same-done : verdict rs (held file) ≡ refused done 0 0
+  same-done =
+      let one : ps ≡ rs = same-records ps rs (sym (q .gives) ∙ e) in
+      rw one at (verdict-in-order ps (held file) (q .rises) (sym same-held ∙ sym one))

@@ -3,7 +3,7 @@ use Prim.Native.Nat.{ℕ, _-_, _^_, _≤_, _<_}
 use native.Mathlib.Omega.{arith}
 use mathlib.Core.Path.{_≡_, refl, sym, ap, _∙_}
 use mathlib.Core.Bool.{true, false}
-use mathlib.Core.List.{List, map}
+use mathlib.Core.List.{List, [], map, append-nil}
 use lib.ListN.{length}
 use borrow.Author.Tests.{eq-eqb, ne-eqb, le-leb, lt-leb}
 use Rattle.refusal.specs.declared.Refusal.{Refusal}
@@ -23,15 +23,13 @@ use Rattle.render.specs.Plain.{bare}
 use Rattle.render.specs.Lines.{lines}
 use Rattle.render.specs.Fit.{fitFrom}
 use Rattle.render.specs.Written.{canonical, accepted, written, filled}
+use Rattle.writer.specs.Told.{Answers, Tells, Reads}
 use Rattle.render.proofs.Short.{reading-short}
 use Rattle.render.proofs.Theorems.{render-bare}
 use Rattle.writer.specs.Put.{greatest, Put}
-use Rattle.writer.specs.Penned.{Ready}
+use Rattle.writer.specs.Penned.{admitsAll, Ready}
 use Rattle.writer.proofs.Laws.{put-whole}
-
--- an answer, and the buffer as it is left
-abbrev pub Answers : List ℕ → List ℕ → List ℕ → Refusal → List ℕ → Type 0
-Answers s file out r exit = (r ≡ written s file (length out)) × (exit ≡ filled s file out)
+use Rattle.writer.proofs.Writing.{fits-first}
 
 module _ (s file : List ℕ) (c : Refusal) (e : c ≡ checked (reading s) file) where
   pub refused-first : (c .number ≡ done → ⊥) → (out : List ℕ) → Answers s file out c out
@@ -42,67 +40,72 @@ module _ (s file : List ℕ) (c : Refusal) (e : c ≡ checked (reading s) file) 
 
   module _ (h : c .number ≡ done) where
     -- a text that is refused has another number
-    pub never-refused : (r : Refusal) → reading s ≡ refusal-of r → ⊥
+    never-refused : (r : Refusal) → reading s ≡ refusal-of r → ⊥
     never-refused r q =
         let z : c ≡ r = e ∙ rw q in
         let m : r .number ≡ done = rw z at h in
         omega (arith, refusal-low s r q .0)
 
-    reads : (o : Reading) → reading s ≡ o → (rs : List Record) × (reading s ≡ records rs)
+    reads : (o : Reading) → reading s ≡ o → Reads s
     reads (records rs) q = (rs, q)
     reads (refusal-of r) q = absurd (never-refused r q)
 
-    yes : accepted (checked (reading s) file) ≡ true
-    yes = rw (← e) (eq-eqb (c .number) done h)
+    -- an accepted file is that of a text that is read to its end
+    pub reads-on : Reads s
+    reads-on = reads (reading s) refl
 
-    module _ (x : Begun) (b : Begins s x) (st : State) (at : x ≡ B.At st) where
-      begun : Begins s (B.At st)
-      begun = rw at at b
+    pub accepted-then : (out : List ℕ) (r : Refusal) (exit : List ℕ) → Tells s out r exit → Answers s file out r exit
+    unfolding written filled
+    accepted-then out r exit t =
+        let yes : accepted (checked (reading s) file) ≡ true = rw (← e) (eq-eqb (c .number) done h) in
+        (rw yes (t .0), rw yes (t .1))
 
-      all : (rs : List Record) × (reading s ≡ records rs)
-      all = reads (reading s) refl
+-- a text that is refused at its beginning
+pub begun-refused : (s file : List ℕ) (r : Refusal) → reading s ≡ refusal-of r → (out : List ℕ) → Answers s file out r out
+begun-refused s file r q = refused-first s file r (sym (ap (λ o. checked o file) q)) (λ h. omega (arith, refusal-low s r q .0))
 
-      abbrev lined : List ℕ
-      lined = text (lines (stateOf s st) (map (bare s) (all .0)))
+module _ (s : List ℕ) (st : State) (begun : Begins s (B.At st)) (rs : List Record) (all : reading s ≡ records rs) where
+  abbrev lined : List ℕ
+  lined = text (lines (stateOf s st) (map (bare s) rs))
 
-      from-start : lined ≡ text (lines start (map (bare s) (all .0)))
-      from-start = ap (λ t. text (lines t (map (bare s) (all .0)))) (begun .2)
+  from-start : lined ≡ text (lines start (map (bare s) rs))
+  from-start = ap (λ t. text (lines t (map (bare s) rs))) (begun .2)
 
-      said : canonical s ≡ lined
-      said = rw (all .1) (render-bare s (all .0) (all .1) .0) ∙ sym from-start
+  said : canonical s ≡ lined
+  said = rw all (render-bare s rs all .0) ∙ sym from-start
 
-      gives : readFrom s st ≡ records (all .0)
-      gives = sym (begun .0) ∙ all .1
+  pub gives : readFrom s st ≡ records rs
+  gives = sym (begun .0) ∙ all
 
-      pub ready : (rs : List Record) × Ready s st rs
-      ready = (
-        all .0,
-        record {
-          gives = gives;
-          fit = reads-of s st (begun .0) (all .0) gives .fit;
-          fits = ap (λ t. fitFrom t (map (bare s) (all .0))) (begun .2) ∙ render-bare s (all .0) (all .1) .1;
-        },
-      )
+  pub ready : (qs : List Record) × Ready s st qs
+  ready = (
+    rs,
+    record {
+      gives = gives;
+      fit = reads-of s st (begun .0) rs gives .fit;
+      fits = ap (λ t. fitFrom t (map (bare s) rs)) (begun .2) ∙ render-bare s rs all .1;
+    },
+  )
 
-      short : length lined ≤ 2 ^ 64 - 1
-      short = rw from-start (reading-short s (all .0) (all .1))
+  -- the records may come from the state on
+  pub comes : admitsAll (stateOf s st) (map (bare s) rs) ≡ true
+  unfolding ready
+  comes = fits-first (stateOf s st) (map (bare s) rs) [] (rw (append-nil (map (bare s) rs)) (ready .1 .fits)) .0
 
-      -- the first writing, without room
-      module _ (n : ℕ) (o o' : List ℕ)
-          (p : (rs : List Record) → readFrom s st ≡ records rs → Put o 0 (text (lines (stateOf s st) (map (bare s) rs))) n o') where
-        counted : n ≡ length lined
-        counted = omega (arith, p (all .0) gives .reached, short)
+  short : length lined ≤ 2 ^ 64 - 1
+  short = rw from-start (reading-short s rs all)
 
-        pub no-room : (out : List ℕ) → length out < n → Answers s file out (refused textRoom n 0) out
-        unfolding written filled
-        no-room out l =
-            let k = lt-leb (length lined) (length out) (omega (arith, counted)) in
-            (rw (yes, said, k, counted), rw (yes, said, k))
+  -- the first writing, without room
+  module _ (n : ℕ) (o o' : List ℕ) (p : Put o 0 lined n o') where
+    counted : n ≡ length lined
+    counted = omega (arith, p .reached, short)
 
-        pub written-whole : (out exit : List ℕ) → n ≤ length out → length out ≤ greatest → (m : ℕ)
-            → ((rs : List Record) → readFrom s st ≡ records rs → Put out 0 (text (lines (stateOf s st) (map (bare s) rs))) m exit)
-            → Answers s file out (refused done n 0) exit
-        unfolding written filled
-        written-whole out exit l g m q =
-            let k = le-leb (length lined) (length out) (omega (arith, counted)) in
-            (rw (yes, said, k, counted), rw (yes, said, k) (put-whole (q (all .0) gives) (omega (arith, counted)) g .1))
+    pub no-room : (out : List ℕ) → length out < n → Tells s out (refused textRoom n 0) out
+    no-room out l =
+        let k = lt-leb (length lined) (length out) (omega (arith, counted)) in
+        (rw (said, k, counted), rw (said, k))
+
+    pub written-whole : (out exit : List ℕ) → n ≤ length out → length out ≤ greatest → (m : ℕ) → Put out 0 lined m exit → Tells s out (refused done n 0) exit
+    written-whole out exit l g m q =
+        let k = le-leb (length lined) (length out) (omega (arith, counted)) in
+        (rw (said, k, counted), rw (said, k) (put-whole q (omega (arith, counted)) g .1))

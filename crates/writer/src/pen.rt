@@ -67,7 +67,7 @@ fn write_stretches(text: &[u8], start: State, w: &mut [u8], out: &mut [u8]) -> u
 }
 
 // The last stretch, of c records, and the ends of the blocks.
-fn write_last(text: &[u8], pen: Pen, w: &[u8], c: usize, out: &mut [u8]) -> usize
+pub(crate) fn write_last(text: &[u8], pen: Pen, w: &[u8], c: usize, out: &mut [u8]) -> usize
     requires { ⌜ (c ≤ length (now w) / 36) × (admitsAll (stateOf (now text) (pen .st)) (map (bare (now text)) (front c (now w))) ≡ true) ⌝ }
     ensures { λ n. ⌜ Put (now (out .entry)) (pen .at) (bytesOf (lines (stateOf (now (text .entry)) (pen .st)) (map (bare (now (text .entry))) (front c (now (w .entry)))))) n (now (out .exit)) ⌝ }
 {

@@ -1,38 +1,7 @@
--- `check_from` meets its contract: the refusal of the text comes first, and without one the reading gives records.
+-- `check_from` meets its contract: it is the answer of `compare`.
 use borrow.Author.Needs.{needs}
-use Rattle.checker.proofs.Judging.{text-refused, order-refused, order-same, order-other, judged}
 use Rattle.checker.proofs.check_from.Statement.{statement}
 use Rattle.checker.proofs.check_from.Tie as tie
 
-judge-requires : tie.Need-judge-requires
-judge-requires c κs =
-    let s = c .before .before .before .before .before in
-    order-same (s .args .text .now) (s .args .start) (s .pre) (s .args .file .now) _ (c .before .before .in-order .ensures) (c .enum-told .given .1)
-
-judge-requires-2 : tie.Need-judge-requires-2
-judge-requires-2 c κs =
-    let s = c .before .before .before .before .before in
-    order-other (s .args .text .now) (s .args .start) (s .pre) (s .args .file .now) _ (c .before .before .in-order .ensures) (c .enum-told2 .given .1)
-
-returns : tie.Need-returns
-returns c =
-    let s = c .before .before .before .before .before .before in
-    text-refused _ _ _ (order-refused (s .args .text .now) (s .args .start) (s .pre) (s .args .file .now) _ (c .before .before .before .in-order .ensures) _ (c .before .refusal .given .1))
-
-returns-2 : tie.Need-returns-2
-returns-2 c =
-    let s = c .before .before .before .before .before .before in
-    let z = order-same (s .args .text .now) (s .args .start) (s .pre) (s .args .file .now) _ (c .before .before .before .in-order .ensures) (c .before .enum-told .given .1) in
-    judged (s .args .text .now) (s .args .start) (s .pre) (s .args .file .now) _ (c .judge .ensures) (z .0) (z .1)
-
-returns-3 : tie.Need-returns-3
-returns-3 c =
-    let s = c .before .before .before .before .before .before in
-    let z = order-other (s .args .text .now) (s .args .start) (s .pre) (s .args .file .now) _ (c .before .before .before .in-order .ensures) (c .before .enum-told2 .given .1) in
-    judged (s .args .text .now) (s .args .start) (s .pre) (s .args .file .now) _ (c .judge2 .ensures) (z .0) (z .1)
-
 pub check-from-spec : {M : Type 1} → statement M
-check-from-spec =
-    tie.close
-    (tie.spec (λ c κs. search needs) (λ c. search needs) (λ c. search needs) judge-requires (λ c. search needs) judge-requires-2 returns
-    returns-2 returns-3)
+check-from-spec = tie.close (tie.spec (λ c κs. search needs) (λ c. c .before .compare .ensures .0))
