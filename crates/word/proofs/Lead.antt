@@ -13,7 +13,7 @@ use Rattle.little.specs.Little.{Bytes}
 use Rattle.little.proofs.Laws.{drop-bytes}
 use Rattle.text.specs.Text.{bytes}
 use Rattle.word.specs.Words.{keys, values, words, upper, same, firstWhere, wordOf}
-use Rattle.word.specs.Lookup.{stems, nodes, nodeOf, marked, stretch, keyOf, placeIn, nextOf}
+use Rattle.word.specs.Lookup.{stems, wordCount, nodes, nodeOf, marked, stretch, keyOf, placeIn, nextOf}
 use Rattle.word.proofs.Words.{clash, same-eq, same-refl, upper-drop}
 use Rattle.word.proofs.Marked.{told}
 use Rattle.word.proofs.First.{look, agree, joined}
@@ -108,40 +108,40 @@ no-node u q p h z = ⊎-elim
     (λ e. e)
     (node-or-none u)
 
--- the first hundred nodes are the words
-hundred : (s : List ℕ) → wordOf s ≤ 100
+-- the first nodes are the words
+few-words : (s : List ℕ) → wordOf s ≤ wordCount
 unfolding keys values words wordOf
-hundred s = ⊎-elim (λ r. omega (arith, r .number, r .inside)) (λ r. omega (arith, r .none)) (look (same (upper s)) 1 words)
+few-words s = ⊎-elim (λ r. omega (arith, r .number, r .inside)) (λ r. omega (arith, r .none)) (look (same (upper s)) 1 words)
 
 module _ (s : List ℕ) (k : ℕ) (e : k ≡ nodeOf (upper s)) where
   others : ℕ
-  others = firstWhere (same (upper s)) 101 (map bytes stems)
+  others = firstWhere (same (upper s)) (suc wordCount) (map bytes stems)
 
   in-both : k ≡ cond (eqb (wordOf s) 0) others (wordOf s)
   unfolding keys values words nodes nodeOf wordOf others
   in-both = e ∙ joined (same (upper s)) 0 words (map bytes stems)
 
-  pub is-word : k ≤ 100 → k ≡ wordOf s
+  pub is-word : k ≤ wordCount → k ≡ wordOf s
   unfolding others
   is-word h = go (eqb (wordOf s) 0) refl
     where
       go : (b : Bool) → eqb (wordOf s) 0 ≡ b → k ≡ wordOf s
       go true z =
           let f : k ≡ others = rw z at in-both in
-          ⊎-elim (λ r. absurd (omega (arith, f, r .number))) (λ r. f ∙ r .none ∙ sym (eqb-true _ _ z)) (look (same (upper s)) 101 (map bytes stems))
+          ⊎-elim (λ r. absurd (omega (arith, f, r .number))) (λ r. f ∙ r .none ∙ sym (eqb-true _ _ z)) (look (same (upper s)) (suc wordCount) (map bytes stems))
       go false z = rw z at in-both
 
-  pub no-word : 100 < k → 0 ≡ wordOf s
+  pub no-word : wordCount < k → 0 ≡ wordOf s
   no-word h = go (eqb (wordOf s) 0) refl
     where
       go : (b : Bool) → eqb (wordOf s) 0 ≡ b → 0 ≡ wordOf s
       go true z = sym (eqb-true _ _ z)
-      go false z = let f : k ≡ wordOf s = rw z at in-both in absurd (omega (arith, f, hundred s))
+      go false z = let f : k ≡ wordOf s = rw z at in-both in absurd (omega (arith, f, few-words s))
 
   -- the word that the node is
-  pub word-here : cond (leb k 100) k 0 ≡ wordOf s
-  word-here = go (leb k 100) refl
+  pub word-here : cond (leb k wordCount) k 0 ≡ wordOf s
+  word-here = go (leb k wordCount) refl
     where
-      go : (b : Bool) → leb k 100 ≡ b → cond (leb k 100) k 0 ≡ wordOf s
+      go : (b : Bool) → leb k wordCount ≡ b → cond (leb k wordCount) k 0 ≡ wordOf s
       go true f = rw f (is-word (leb-true _ _ f))
       go false f = rw f (no-word (leb-false _ _ f))

@@ -7,3 +7,5 @@ pub mod Lead
 pub mod Turn
 pub mod Values
 pub mod Spelt
+pub mod Masks
+pub mod Hits

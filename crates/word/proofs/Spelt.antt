@@ -11,7 +11,7 @@ use lib.ListN.{length, take, drop, getD, drop-of-length-le, List·getD-append, L
 use Rattle.little.specs.Little.{number, Bytes}
 use Rattle.text.specs.Text.{bytes}
 use Rattle.word.specs.Words.{keys, values, words}
-use Rattle.word.specs.Lookup.{stems, nodes}
+use Rattle.word.specs.Lookup.{stems, wordCount, nodes}
 use Rattle.word.specs.Spelling.{spelling}
 use Rattle.word.proofs.Words.{both}
 use Rattle.word.proofs.Steps.{Nested, Apart, apart}
@@ -21,11 +21,11 @@ pub at-word : (f : List ℕ → ℕ) {k r : ℕ} (lit : ℕ) → k ≡ lit → f
 at-word f lit e q = sym (ap (λ k. f (spelling k)) e ∙ q)
 
 -- the test p passes at each number below n
-abbrev below : (ℕ → Bool) → ℕ → Bool
+abbrev pub below : (ℕ → Bool) → ℕ → Bool
 below p zero = true
 below p (suc n) = p n && below p n
 
-below-at : (p : ℕ → Bool) (n : ℕ) → below p n ≡ true → (k : ℕ) → k < n → p k ≡ true
+pub below-at : (p : ℕ → Bool) (n : ℕ) → below p n ≡ true → (k : ℕ) → k < n → p k ≡ true
 below-at p zero t k h = absurd (omega arith)
 below-at p (suc n) t k h = elim (decLt k n) [
   | yes l ↦ below-at p n (both (p n) (below p n) t .1) k l
@@ -41,30 +41,30 @@ not-among k [] h = refl
 not-among k (n ∷ ns) h = rw (ne-eqb k n (h .0), not-among k ns (h .1))
 
 -- a number above those of the words spells nothing
-pub no-letters : (k : ℕ) → 100 < k → spelling k ≡ []
+pub no-letters : (k : ℕ) → wordCount < k → spelling k ≡ []
 unfolding keys values words spelling
 no-letters zero h = refl
 no-letters (suc k) h = List·getD-eq-default words [] {n = k} (omega arith)
 
 -- f is 0 of every word that is not among ks, and of nothing
-pub no-word : (f : List ℕ → ℕ) (ks : List ℕ) → f [] ≡ 0 → below (λ k. among k ks || eqb (f (spelling k)) 0) 101 ≡ true
+pub no-word : (f : List ℕ → ℕ) (ks : List ℕ) → f [] ≡ 0 → below (λ k. among k ks || eqb (f (spelling k)) 0) (suc wordCount) ≡ true
     → (k : ℕ) → Nested k ks (Unit {0}) → 0 ≡ f (spelling k)
-no-word f ks z t k h = elim (decLt k 101) [
+no-word f ks z t k h = elim (decLt k (suc wordCount)) [
   | yes l ↦
-      let e : (among k ks || eqb (f (spelling k)) 0) ≡ true = below-at (λ j. among j ks || eqb (f (spelling j)) 0) 101 t k l in
+      let e : (among k ks || eqb (f (spelling k)) 0) ≡ true = below-at (λ j. among j ks || eqb (f (spelling j)) 0) (suc wordCount) t k l in
       sym (eqb-true _ _ (rw (not-among k ks (apart k ks (Unit {0}) h .1)) at e))
   | no q ↦ sym (ap f (no-letters k (omega arith)) ∙ z)
 ]
 
 -- the letters are bytes, and thirty at most
-letters-law : (k : ℕ) → k < 100 → Lawful (getD words k [])
+letters-law : (k : ℕ) → k < wordCount → Lawful (getD words k [])
 unfolding keys values words stems nodes
 letters-law k h = rw (← (List·getD-append words (map bytes stems) [] k h)) (node-law k (omega arith))
 
 pub letters-bytes : (k : ℕ) → Bytes (spelling k)
 unfolding spelling
 letters-bytes zero = λ i. omega arith
-letters-bytes (suc k) = elim (decLt k 100) [
+letters-bytes (suc k) = elim (decLt k wordCount) [
   | yes h ↦ letters-law k h .whole
   | no q ↦ rw (no-letters (suc k) (omega arith)) (λ i. omega arith)
 ]
@@ -72,7 +72,7 @@ letters-bytes (suc k) = elim (decLt k 100) [
 pub few-letters : (k : ℕ) → length (spelling k) ≤ 30
 unfolding spelling
 few-letters zero = omega arith
-few-letters (suc k) = elim (decLt k 100) [
+few-letters (suc k) = elim (decLt k wordCount) [
   | yes h ↦ letters-law k h .short
   | no q ↦ rw (no-letters (suc k) (omega arith)) (omega arith)
 ]

@@ -11,7 +11,7 @@ use lib.Dec.{eqb, leb}
 use lib.ListN.{length, take, getD}
 use Rattle.little.specs.Little.{Bytes}
 use Rattle.word.specs.Words.{keys, values, words, raised, upper, same, firstWhere}
-use Rattle.word.specs.Lookup.{stems, nodes, nodeOf, marked, stretch, keyOf, keyed}
+use Rattle.word.specs.Lookup.{stems, nodeCount, nodes, nodeOf, marked, stretch, keyOf, keyed}
 use Rattle.word.proofs.Words.{clash, same-eq, both}
 use Rattle.word.proofs.First.{look, all, each-of}
 
@@ -32,7 +32,7 @@ tested : all lawful nodes ≡ true
 unfolding keys values words raised upper same firstWhere stems nodes nodeOf bytes-of begins lawful
 tested = refl
 
-pub count : length nodes ≡ 154
+pub count : length nodes ≡ nodeCount
 unfolding keys values words stems nodes
 count = refl
 
@@ -103,5 +103,5 @@ node-or-none v = ⊎-elim
     (λ r. inr (r .none))
     (look (same v) 1 nodes)
 
-pub few : (v : List ℕ) → nodeOf v ≤ 154
+pub few : (v : List ℕ) → nodeOf v ≤ nodeCount
 few v = ⊎-elim (λ r. omega (arith, r .number, r .inside, count)) (λ z. omega (arith, z)) (node-or-none v)

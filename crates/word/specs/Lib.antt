@@ -3,3 +3,4 @@ pub mod Lookup
 pub mod Codes
 pub mod Examples
 pub mod Spelling
+pub mod Letters

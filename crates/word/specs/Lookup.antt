@@ -19,6 +19,13 @@ stems =
     "SUPPLYSENSIT" ∷ "GROUNDSENSIT" ∷ "MUSTJO" ∷ "PROPER" ∷ "BLACKB" ∷ "TIEHIG" ∷ "WELLTA" ∷ "TOPLEF" ∷ "TOPRIG" ∷ "BOTTOM" ∷ "ABUTME" ∷
     "DATABA" ∷ "MICRON" ∷ "CAPACI" ∷ "RESIST" ∷ "CURREN" ∷ "VOLTAG" ∷ "FREQUE" ∷ []
 
+-- how many words there are, and how many nodes
+abbrev pub wordCount : ℕ
+wordCount = 100
+
+abbrev pub nodeCount : ℕ
+nodeCount = 154
+
 unfoldable pub nodes : List (List ℕ)
 nodes = words ++ map bytes stems
 

@@ -4,12 +4,15 @@ ghost use mathlib.Core.Bool.{cond};
 ghost use Prim.Native.Nat.{_+_, _-_, _*_, _^_, _≤_, _<_, min};
 ghost use lib.Dec.{leb};
 ghost use lib.ListN.{length, take, drop};
+ghost use Rattle.little.specs.Little.{number};
 ghost use Rattle.word.specs.Words.{raised, upper, wordOf, isKey};
-ghost use Rattle.word.specs.Lookup.{marked, cased, nextOf};
+ghost use Rattle.word.specs.Lookup.{wordCount, marked, cased, nextOf};
 
 pub mod codes;
+mod letters;
 pub mod names;
 mod nodes;
+mod slots;
 pub mod spelling;
 
 // The number of the word that the bytes spell, in upper or lower case, or 0. Most words are one stretch long, and those are
@@ -55,7 +58,7 @@ fn follow(part: &[u8], from: usize, to: usize, node: u8) -> u8
 
 // The word that a node is, or 0 where it is only the beginning of one.
 fn word_at(node: u8) -> u8
-    ensures { λ r. ⌜ r ≡ cond (leb node 100) node 0 ⌝ }
+    ensures { λ r. ⌜ r ≡ cond (leb node wordCount) node 0 ⌝ }
 {
     if node <= names::WORDS { node } else { 0 }
 }
@@ -106,4 +109,102 @@ fn wide(x: u8) -> u64
     ensures { λ r. ⌜ (r ≡ x) × (r < 256) ⌝ }
 {
     x as u64
+}
+
+// The number of the word that the bytes of a text from a place to a place spell, as far as the text goes, or 0. A word of at most
+// eight bytes in upper case is found in one step, by the number that they make; where the last byte is 0, that number does not
+// tell how many there are.
+pub fn word_in(lent: &&[u8], start: usize, stop: usize) -> u8
+    ensures { λ r. ⌜ r ≡ wordOf (take (stop - start) (drop start (now (now (lent .entry))))) ⌝ }
+{
+    let text = *lent;
+    if stop <= start {
+        return 0;
+    }
+    if text.len() < stop {
+        return slow_in(lent, start, stop);
+    }
+    let n = stop - start;
+    if 8 < n {
+        return long_in(lent, start, stop);
+    }
+    if text.len() - start < 8 {
+        return slow_in(lent, start, stop);
+    }
+    let w = low_bytes(text, start, n);
+    let k = slots::short((w ^ (w >> 10) ^ (w >> 16) ^ (w >> 37)) % 512);
+    if (letters::short(k) == w) & (text[stop - 1] != 0) {
+        return k;
+    }
+    slow_in(lent, start, stop)
+}
+
+// The same for more than eight bytes: those of a word of at most sixteen are two numbers.
+fn long_in(lent: &&[u8], start: usize, stop: usize) -> u8
+    requires { ⌜ (start + 8 < stop) × (stop ≤ length (now (now lent))) ⌝ }
+    ensures { λ r. ⌜ r ≡ wordOf (take (stop - start) (drop start (now (now (lent .entry))))) ⌝ }
+{
+    let text = *lent;
+    if 16 < stop - start {
+        return slow_in(lent, start, stop);
+    }
+    if text.len() - start < 16 {
+        return slow_in(lent, start, stop);
+    }
+    let w = eight(text, start);
+    let v = low_bytes(text, start + 8, stop - start - 8);
+    let k = slots::long(((w >> 55) ^ (v >> 3)) % 32);
+    if ((letters::head(k) == w) & (letters::rest(k) == v)) & (text[stop - 1] != 0) {
+        return k;
+    }
+    slow_in(lent, start, stop)
+}
+
+// The same, by stretches.
+fn slow_in(lent: &&[u8], start: usize, stop: usize) -> u8
+    ensures { λ r. ⌜ r ≡ wordOf (take (stop - start) (drop start (now (now (lent .entry))))) ⌝ }
+{
+    word_of(part(*lent, start, stop))
+}
+
+// The bytes from a place to a place, as far as the text goes.
+fn part(text: &[u8], start: usize, stop: usize) -> &[u8]
+    ensures { λ r. ⌜ now r ≡ take (stop - start) (drop start (now (text .entry))) ⌝ }
+{
+    if text.len() <= start {
+        return &text[0..0];
+    }
+    if text.len() < stop {
+        return &text[start..];
+    }
+    if stop < start {
+        return &text[0..0];
+    }
+    &text[start..stop]
+}
+
+// So many bytes from a place on as a number, the lowest first: those of eight that are left under a mask.
+fn low_bytes(text: &[u8], at: usize, n: usize) -> u64
+    requires { ⌜ (1 ≤ n) × (n ≤ 8) × (at + 8 ≤ length (now text)) ⌝ }
+    ensures { λ r. ⌜ r ≡ number (take n (drop at (now (text .entry)))) ⌝ }
+{
+    eight(text, at) & (0xffffffffffffffff >> (64 - 8 * (n as u64)))
+}
+
+// Eight bytes as a number, the lowest first, which the compiler makes one load.
+fn eight(text: &[u8], at: usize) -> u64
+    requires { ⌜ at + 8 ≤ length (now text) ⌝ }
+    ensures { λ r. ⌜ r ≡ number (take 8 (drop at (now (text .entry)))) ⌝ }
+{
+    four(text, at) + 4294967296 * four(text, at + 4)
+}
+
+fn four(text: &[u8], at: usize) -> u64
+    requires { ⌜ at + 4 ≤ length (now text) ⌝ }
+    ensures { λ r. ⌜ (r ≡ number (take 4 (drop at (now (text .entry))))) × (r < 4294967296) ⌝ }
+{
+    wide(text[at])
+        + 256 * wide(text[at + 1])
+        + 65536 * wide(text[at + 2])
+        + 16777216 * wide(text[at + 3])
 }
