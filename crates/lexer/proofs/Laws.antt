@@ -1,9 +1,11 @@
 -- The laws of the answers at a byte of each class, which the loop of `lex` cites.
 use Prim.Native.Nat.{ℕ, zero, suc, _+_, _≤_, _<_, min}
 use mathlib.Core.Path.{_≡_, refl, sym, ap, _∙_}
+use mathlib.Core.Bool.{Bool, true, false, cond}
 use mathlib.Core.List.{List, [], _∷_}
 use native.Mathlib.Nat.{add-zero}
 use native.Mathlib.Omega.{arith}
+use borrow.Author.Tests.{eqb-true}
 use lib.ListN.{length, drop, getD, drop-of-length-le, length-drop}
 use lib.Seq.{drop-drop}
 use Rattle.lexer.specs.declared.scan.Class.{Class}
@@ -12,6 +14,7 @@ use Rattle.lexer.specs.declared.Lexed.{Lexed}
 use Rattle.lexer.specs.declared.Lexed.the-variants.{End, Bad}
 use Rattle.lexer.specs.Bytes.{classOf, inName, inNumber, inString, inComment}
 use Rattle.lexer.specs.Run.{run, past}
+use Rattle.lexer.specs.Eight.{isBlank}
 use Rattle.lexer.specs.Kinds.{name, number, semicolon, stringLiteral}
 use Rattle.lexer.specs.Lex.{answers, from, firstAnswer, lexFrom, nextLine, token}
 use Rattle.lexer.proofs.Runs.{step}
@@ -62,6 +65,23 @@ at-semicolon {s} {i} a = rw (step s i (a .inside)) (rw (a .class, answers))
 pub at-newline : {s : List ℕ} {i n : ℕ} → At s i n NewLine → (m : ℕ) → m ≡ nextLine n → from s i n ≡ from s (i + 1) m
 unfolding from answers
 at-newline {s} {i} a m q = rw (step s i (a .inside)) (rw (a .class, answers, q))
+
+-- blanks are passed over
+blank-run : (l : List ℕ) (i n : ℕ) → answers 0 l i n ≡ answers (run isBlank l) l i n
+unfolding answers run classOf
+blank-run [] i n = refl
+blank-run (b ∷ l) i n = go (isBlank b) refl (blank-run l (i + 1) n)
+  where
+    go : (t : Bool) → isBlank b ≡ t → answers 0 l (i + 1) n ≡ answers (run isBlank l) l (i + 1) n → answers 0 (b ∷ l) i n ≡ answers (cond t (suc (run isBlank l)) 0) (b ∷ l) i n
+    go true e h = rw (eqb-true b 32 e) h
+    go false e h = refl
+
+blanks : (s : List ℕ) (i n : ℕ) → from s i n ≡ from s (past isBlank s i) n
+unfolding from
+blanks s i n = blank-run (drop i s) i n ∙ over s (run isBlank (drop i s)) i n
+
+pub at-blanks : (s : List ℕ) (i j n : ℕ) → past isBlank s j ≡ past isBlank s i → from s i n ≡ from s j n
+at-blanks s i j n q = blanks s i n ∙ ap (λ k. from s k n) (sym q) ∙ sym (blanks s j n)
 
 pub at-quote : {s : List ℕ} {i n : ℕ} → At s i n Quote → (j : ℕ) → j ≡ min (past inString s (i + 1) + 1) (length s) → from s i n ≡ token stringLiteral i j n ∷ from s j n
 unfolding from answers

@@ -1,4 +1,7 @@
 pub mod Runs
+pub mod EightBits
+pub mod EightBytes
+pub mod EightRuns
 pub mod Counts
 pub mod Laws
 pub mod First

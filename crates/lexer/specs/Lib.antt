@@ -1,5 +1,6 @@
 pub mod Bytes
 pub mod Run
+pub mod Eight
 pub mod Kinds
 pub mod Lex
 pub mod Places

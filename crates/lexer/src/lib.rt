@@ -10,6 +10,7 @@ ghost use Rattle.lexer.specs.Screen.{screened};
 ghost use Rattle.lexer.specs.Answer.{firstToken};
 use refusal::Refusal;
 
+mod eight;
 mod scan;
 
 use scan::Class;
@@ -93,10 +94,19 @@ pub fn first_token(text: &[u8], place: usize) -> Answer
 pub fn lex(text: &[u8], at: usize, line: usize) -> Lexed
     ensures { λ r. ⌜ r ≡ lexFrom (now (text .entry)) at line ⌝ }
 {
+    lex_in(&text, at, line)
+}
+
+// The same of a text that is lent by one more reference, which a caller hands on as it is.
+pub fn lex_in(lent: &&[u8], at: usize, line: usize) -> Lexed
+    ensures { λ r. ⌜ r ≡ lexFrom (now (now (lent .entry))) at line ⌝ }
+{
+    let text = *lent;
+    let end = scan::size(text);
     let mut i = at;
     let mut n = line;
     loop {
-        if text.len() <= i {
+        if end <= i {
             break Lexed::End(n);
         }
         match scan::class_of(text[i]) {
@@ -107,7 +117,7 @@ pub fn lex(text: &[u8], at: usize, line: usize) -> Lexed
             Class::Digit => break lex_number(text, i, n),
             Class::SemiColon => break emit(Token::SEMICOLON, i, i + 1, n),
             Class::NewLine => {
-                i += 1;
+                i = eight::blanks_past(text, i + 1);
                 n = lex_newline(n);
             }
             Class::Quote => break lex_string_literal(text, i, n),
@@ -138,12 +148,7 @@ fn lex_name(text: &[u8], start: usize, line: usize) -> Lexed
     requires { ⌜ start < length (now text) ⌝ }
     ensures { λ r. ⌜ r ≡ token name start (past inName (now (text .entry)) (start + 1)) line ⌝ }
 {
-    emit(
-        Token::NAME,
-        start,
-        scan::run_past(Run::Name, text, start + 1),
-        line,
-    )
+    emit(Token::NAME, start, eight::name_past(text, start + 1), line)
 }
 
 fn lex_number(text: &[u8], start: usize, line: usize) -> Lexed
@@ -153,7 +158,7 @@ fn lex_number(text: &[u8], start: usize, line: usize) -> Lexed
     emit(
         Token::NUMBER,
         start,
-        scan::number_past(text, start + 1),
+        eight::number_past(text, start + 1),
         line,
     )
 }

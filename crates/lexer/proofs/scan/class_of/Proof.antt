@@ -29,26 +29,27 @@ digits b h =
       le-leb b 57 high,
     )
 
-no-digit : (c : tie.Else2) → isDigit (c .before .before .before .args .b) ≡ false
-no-digit c = sym (c .before .is-digit .ensures) ∙ c .if2 .left
-
-no-letter : (c : tie.Else3) → isLetter (c .before .before .before .before .before .args .b) ≡ false
+no-letter : (c : tie.Else3) → isLetter (c .before .before .before .before .args .b) ≡ false
 no-letter c = sym (c .before .is-letter .ensures) ∙ c .if3 .left
+
+no-digit : (c : tie.Else5) → isDigit (c .before .before .before .before .before .before .before .args .b) ≡ false
+no-digit c = sym (c .before .is-digit .ensures) ∙ c .if5 .left
 
 -- past all tests
 others : (c : tie.Else9) → Other ≡ classOf (c .before .before .before .before .before .before .before .before .before .before .before .before .args .b)
 unfolding classOf
 others c =
     let p = c .before .before .before in
-    let d = p .before .before .before .before in
+    let d = p .before .before in
+    let l = d .before .before in
     rw (
-      no-letter d,
+      no-letter (l .before),
       ← p .is-space .ensures,
       c .before .before .if7 .left,
-      no-digit (d .before .before),
-      ne-eqb _ _ (p .before .before .if5 .left),
-      ne-eqb _ _ (p .before .before .before .if4 .left),
+      no-digit d,
       ne-eqb _ _ (p .before .if6 .left),
+      ne-eqb _ _ (l .before .before .before .if2 .left),
+      ne-eqb _ _ (l .if4 .left),
       ne-eqb _ _ (c .before .if8 .left),
       ne-eqb _ _ (c .if9 .left),
     )
@@ -59,12 +60,12 @@ class-of-spec =
     tie.close
     (tie.spec (λ c κs. search needs) (λ c κs. search needs) (λ c κs. search needs)
     (λ c. rw (c .if1 .taken))
-    (λ c. digits (c .before .before .before .args .b) (sym (c .before .is-digit .ensures) ∙ c .if2 .taken))
+    (λ c. rw (c .if2 .taken))
     (λ c. rw (← c .before .is-letter .ensures, c .if3 .taken))
     (λ c. rw (c .if4 .taken))
-    (λ c. rw (c .if5 .taken))
+    (λ c. digits (c .before .before .before .before .before .before .before .args .b) (sym (c .before .is-digit .ensures) ∙ c .if5 .taken))
     (λ c. rw (c .if6 .taken))
-    (λ c. rw (no-letter (c .before .before .before .before .before), ← c .before .is-space .ensures, c .if7 .taken))
+    (λ c. rw (no-letter (c .before .before .before .before .before .before), ← c .before .is-space .ensures, c .if7 .taken))
     (λ c. rw (c .if8 .taken))
     (λ c. rw (c .if9 .taken))
     (λ c. others c))
