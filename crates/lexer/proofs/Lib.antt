@@ -4,6 +4,8 @@ pub mod EightBytes
 pub mod EightRuns
 pub mod Counts
 pub mod Laws
+pub mod Classes
+pub mod Near
 pub mod First
 pub mod Whole
 pub mod Places

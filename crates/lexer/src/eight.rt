@@ -24,7 +24,7 @@ fn wide(x: u8) -> u64
 }
 
 // The eight bytes from a place on as one number, the first of them lowest.
-fn eight(text: &[u8], at: usize) -> u64
+pub fn eight(text: &[u8], at: usize) -> u64
     requires { ⌜ at + 8 ≤ length (now text) ⌝ }
     ensures { λ r. ⌜ Packed (take 8 (drop at (now (text .entry)))) r ⌝ }
 {
@@ -52,14 +52,14 @@ fn others(w: u64, one: u64, first: u64, last: u64) -> u64
 }
 
 // A mark at each byte that ends a name: a space or a newline.
-fn name_ends(w: u64) -> u64
+pub fn name_ends(w: u64) -> u64
     ensures { λ r. ⌜ Marks inName w r ⌝ }
 {
     others(w, 32, 9, 13) ^ TOPS
 }
 
 // A mark at each byte that ends a number: neither a digit nor a point.
-fn number_ends(w: u64) -> u64
+pub fn number_ends(w: u64) -> u64
     ensures { λ r. ⌜ Marks inNumber w r ⌝ }
 {
     others(w, 46, 48, 57)
@@ -73,7 +73,7 @@ fn blank_ends(w: u64) -> u64
 }
 
 // How many bytes stand before the first mark.
-fn before(marks: u64) -> usize
+pub fn before(marks: u64) -> usize
     ensures { λ r. ⌜ r ≡ trailingZeros 64 marks / 8 ⌝ }
 {
     (u64::trailing_zeros(marks) / 8) as usize

@@ -34,7 +34,7 @@ pub fn size(text: &[u8]) -> usize
     text.len()
 }
 
-fn is_letter(b: u8) -> bool
+pub fn is_letter(b: u8) -> bool
     ensures { λ r. ⌜ r ≡ isLetter b ⌝ }
 {
     (97 <= b) & (b <= 122) | (65 <= b) & (b <= 90)
@@ -46,7 +46,7 @@ fn is_space(b: u8) -> bool
     (b == 32) | (b == 9) | (11 <= b) & (b <= 13)
 }
 
-fn is_digit(b: u8) -> bool
+pub fn is_digit(b: u8) -> bool
     ensures { λ r. ⌜ r ≡ isDigit b ⌝ }
 {
     (48 <= b) & (b <= 57)

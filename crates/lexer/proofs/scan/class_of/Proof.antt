@@ -1,33 +1,13 @@
 -- `scan::class_of` meets its contract: at each return the tests that led there say which case of `classOf` holds.
-use Prim.Native.Nat.{ℕ, _≤_}
 use mathlib.Core.Path.{_≡_, sym, _∙_}
-use mathlib.Core.Bool.{true, false}
+use mathlib.Core.Bool.{false}
 use borrow.Author.Needs.{needs}
-use borrow.Author.Tests.{leb-true, le-leb, lt-leb, ne-eqb}
-use native.Mathlib.Omega.{arith}
-use lib.Dec.{leb}
-use Rattle.lexer.specs.declared.scan.Class.the-variants.{Digit, Other}
+use borrow.Author.Tests.{ne-eqb}
+use Rattle.lexer.specs.declared.scan.Class.the-variants.{Other}
 use Rattle.lexer.specs.Bytes.{isLetter, isDigit, classOf}
-use Rattle.lexer.proofs.Runs.{both}
+use Rattle.lexer.proofs.Classes.{digits}
 use Rattle.lexer.proofs.scan.class_of.Statement.{statement}
 use Rattle.lexer.proofs.scan.class_of.Tie as tie
-
--- a digit is no letter and no space
-digits : (b : ℕ) → isDigit b ≡ true → Digit ≡ classOf b
-unfolding classOf
-digits b h =
-    let low : 48 ≤ b = leb-true 48 b (both (leb 48 b) (leb b 57) h .0) in
-    let high : b ≤ 57 = leb-true b 57 (both (leb 48 b) (leb b 57) h .1) in
-    simp (
-      lt-leb 97 b (omega arith),
-      lt-leb 65 b (omega arith),
-      ne-eqb b 32 (λ e. omega arith),
-      ne-eqb b 9 (λ e. omega arith),
-      le-leb 11 b (omega arith),
-      lt-leb b 13 (omega arith),
-      le-leb 48 b low,
-      le-leb b 57 high,
-    )
 
 no-letter : (c : tie.Else3) → isLetter (c .before .before .before .before .args .b) ≡ false
 no-letter c = sym (c .before .is-letter .ensures) ∙ c .if3 .left
