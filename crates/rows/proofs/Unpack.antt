@@ -1,0 +1,42 @@
+-- The items of a number, one after the other.
+use Prim.Native.Nat.{ℕ, zero, suc, _-_, _/_, _%_, _^_, _<_}
+use mathlib.Core.Path.{_≡_, refl, sym, ap, _∙_}
+use mathlib.Core.Bool.{cond}
+use mathlib.Core.List.{List, [], _∷_}
+use native.Mathlib.Decide.{decLt}
+use native.Mathlib.Omega.{arith}
+use native.Mathlib.Nat.{pow-zero, pow-suc, div-lt-iff-lt-mul}
+use borrow.Author.Tests.{ne-eqb}
+use lib.Dec.{eqb}
+use lib.ListN.{drop}
+use Rattle.rows.specs.Packed.{itemAt, itemsIn, itemsOf}
+
+-- so many bytes suffice
+enough : (n s : ℕ) → s < 256 ^ n → itemsIn (suc n) s ≡ itemsIn n s
+unfolding itemsIn
+enough zero s h = let e : s ≡ 0 = omega (arith, rw (pow-zero 256) at h) in rw e
+enough (suc n) s h =
+    let q : s / 256 < 256 ^ n = div-lt-iff-lt-mul {k = 256} {x = s} {y = 256 ^ n} (omega arith) .1 (rw (pow-suc 256 n) at h) in
+    ap (λ is. cond (eqb s 0) [] (itemAt (s % 256) ∷ is)) (enough n (s / 256) q)
+
+-- the first item and the others
+pub split : (s : ℕ) → s < 2 ^ 64 → (s ≡ 0 → ⊥) → itemsOf s ≡ itemAt (s % 256) ∷ itemsOf (s / 256)
+unfolding itemsOf itemsIn
+split s h n = rw (ne-eqb s 0 n) (ap (λ is. itemAt (s % 256) ∷ is) (sym (enough 7 (s / 256) (omega arith))))
+
+pub no-items : itemsOf 0 ≡ []
+unfolding itemsOf itemsIn
+no-items = refl
+
+drop-none : (m : ℕ) → drop m (itemsOf 0) ≡ []
+unfolding itemsOf itemsIn
+drop-none zero = refl
+drop-none (suc m) = refl
+
+-- one of the items to be dropped
+pub drop-one : (m r : ℕ) → r < 2 ^ 64 → (m ≡ 0 → ⊥) → drop m (itemsOf r) ≡ drop (m - 1) (itemsOf (r / 256))
+drop-one zero r h n = absurd (n refl)
+drop-one (suc m) r h n = let e : suc m - 1 ≡ m = omega arith in rw e (elim (decLt 0 r) [
+  | yes p ↦ ap (drop (suc m)) (split r h (λ e. omega arith))
+  | no q ↦ let e : r ≡ 0 = omega arith in rw e (drop-none (suc m) ∙ sym (drop-none m))
+])
