@@ -11,10 +11,10 @@ use lib.Seq.{getD-append-add}
 use Rattle.refusal.specs.declared.Refusal.{Refusal}
 use Rattle.record.specs.declared.Record.{Record}
 use Rattle.grammar.specs.Reading.{Reading, records, refusal-of}
-use Rattle.reader.specs.declared.state.State.{State}
+use Rattle.reader.specs.declared.open.State.{State}
 use Rattle.reader.specs.declared.pass.Passed.{Passed}
 use Rattle.reader.specs.declared.pass.Passed.the-variants as P
-use Rattle.reader.specs.Passed.{readFrom, follow, storedAll, Further, Passes}
+use Rattle.reader.specs.Passed.{Sound, readFrom, follow, storedAll, Further, Passes}
 use Rattle.verdict.specs.Verdict.{blank}
 use Rattle.verdict.specs.Meaning.{nth}
 use Rattle.checker.specs.declared.order.Run.{Run}
@@ -61,14 +61,16 @@ fit-right a b h k l = rw (nth-right a b k) at (h (length a + k) (rw (length-appe
 
 -- the records given so far, and what the run says of them
 pub record So (s : List ℕ) (start : State) (file : List ℕ) (o : State) (run : Run) : Type 0 where
+  pub sound : Sound s o
   pub given : List Record
   pub rest : readFrom s start ≡ follow given (readFrom s o)
   pub within : run .done ≤ length file / 36
   pub count : run .agrees ≡ true → length given ≡ run .done
   pub each : run .agrees ≡ true → Fit given → (k : ℕ) → k < length given → recordIn file k ≡ nth given k
 
-pub so-start : (s : List ℕ) (start : State) (file : List ℕ) (run : Run) → run .done ≡ 0 → So s start file start run
-so-start s start file run e = record {
+pub so-start : (s : List ℕ) (start : State) (file : List ℕ) (run : Run) → Sound s start → run .done ≡ 0 → So s start file start run
+so-start s start file run d e = record {
+  sound = d;
   given = [];
   rest = follow-none (readFrom s start);
   within = omega arith;
@@ -97,8 +99,9 @@ module _ (s : List ℕ) (start : State) (file : List ℕ) (o : State) (run : Run
           rw i at e
     ]
 
-    so-on : (to : State) → readFrom s o ≡ follow g (readFrom s to) → So s start file to r
-    so-on to e = record {
+    so-on : (to : State) → Sound s to → readFrom s o ≡ follow g (readFrom s to) → So s start file to r
+    so-on to d e = record {
+      sound = d;
       given = so .given ++ g;
       rest = so .rest ∙ ap (follow (so .given)) e ∙ follow-follow (so .given) g (readFrom s to);
       within = go .within;
@@ -118,7 +121,7 @@ module _ (s : List ℕ) (start : State) (file : List ℕ) (o : State) (run : Run
   -- .. as a pass laid it
   pub so-next : (w : List ℕ) (c : ℕ) → c ≤ length w / 36 → (to : State) (out : List ℕ) → Further s o w c to out → (r : Run) → Goes run c (recordIn out) file r
       → So s start file to r
-  so-next w c room to out f r go = so-on (f .given) c w r (f .count) room (rw (f .laid) at go) to (f .rest)
+  so-next w c room to out f r go = so-on (f .given) c w r (f .count) room (rw (f .laid) at go) to (f .sound) (f .rest)
 
   pub so-last : (w out : List ℕ) (c : ℕ) (g : List Record) → readFrom s o ≡ records g → length g ≡ c → out ≡ storedAll 0 g w → c ≤ length w / 36
       → (r : Run) → Goes run c (recordIn out) file r → (x : Ordered) → Ended r file x → Orders s start file x
@@ -136,5 +139,5 @@ module _ (s : List ℕ) (o : State) (n : ℕ) (w out : List ℕ) (x : Passed) (p
   pub went-over : (c : ℕ) → x ≡ P.Over c → (g : List Record) × (readFrom s o ≡ records g) × (length g ≡ c) × (c ≤ n) × (out ≡ storedAll 0 g w)
   went-over c h = rw h at p
 
-  pub went-wrong : (f : Refusal) → x ≡ P.Refused f → readFrom s o ≡ refusal-of f
-  went-wrong f h = rw h at p
+  pub went-wrong : (f : Refusal) (to : State) → x ≡ P.Refused f to → readFrom s o ≡ refusal-of f
+  went-wrong f to h = (rw h at p) .0

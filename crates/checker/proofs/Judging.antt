@@ -17,10 +17,10 @@ use Rattle.file.proofs.Held.{held-length, front-at}
 use Rattle.grammar.specs.Standing.{Every}
 use Rattle.grammar.specs.Reading.{records, refusal-of, reading}
 use Rattle.grammar.proofs.Ranges.{in-range}
-use Rattle.reader.specs.declared.state.State.{State}
+use Rattle.reader.specs.declared.open.State.{State}
 use Rattle.reader.specs.declared.pass.Begun.{Begun}
 use Rattle.reader.specs.declared.pass.Begun.the-variants as B
-use Rattle.reader.specs.Passed.{readFrom, Begins}
+use Rattle.reader.specs.Passed.{Sound, readFrom, Begins}
 use Rattle.verdict.specs.Verdict.{blank, verdict, checked}
 use Rattle.verdict.proofs.Bridge.{verdict-in-order}
 use Rattle.verdict.proofs.Read.{reading-rises}
@@ -49,12 +49,12 @@ module _ (s : List ℕ) (x : Begun) (b : Begins s x) where
   pub begun-refused : (r : Refusal) → x ≡ B.Refused r → reading s ≡ refusal-of r
   begun-refused r h = rw h at b
 
-  pub begun-at : (st : State) → x ≡ B.At st → reading s ≡ readFrom s st
-  begun-at st h = (rw h at b) .0
+  pub begun-at : (st : State) → x ≡ B.At st → (reading s ≡ readFrom s st) × Sound s st
+  begun-at st h = let z : Begins s (B.At st) = rw h at b in (z .0, z .3)
 
-module _ (s : List ℕ) (st : State) (from : reading s ≡ readFrom s st) where
+module _ (s : List ℕ) (st : State) (from : reading s ≡ readFrom s st) (sound : Sound s st) where
   pub reads-of : (rs : List Record) → readFrom s st ≡ records rs → Reads s st rs
-  reads-of rs e = record { gives = e; rises = reading-rises s rs (from ∙ e); fit = every-nth rs (in-range s rs (from ∙ e)) }
+  reads-of rs e = record { sound = sound; gives = e; rises = reading-rises s rs (from ∙ e); fit = every-nth rs (in-range s rs (from ∙ e)) }
 
   module _ (file : List ℕ) (x : Ordered) (h : Orders s st file x) where
     pub order-refused : (r : Refusal) → x ≡ O.Refused r → reading s ≡ refusal-of r

@@ -11,8 +11,8 @@ use Rattle.refusal.specs.declared.Refusal.{Refusal}
 use Rattle.record.specs.declared.Record.{Record}
 use Rattle.file.specs.File.{held, recordIn}
 use Rattle.grammar.specs.Reading.{records, refusal-of}
-use Rattle.reader.specs.declared.state.State.{State}
-use Rattle.reader.specs.Passed.{readFrom, storedAll, Further}
+use Rattle.reader.specs.declared.open.State.{State}
+use Rattle.reader.specs.Passed.{Sound, readFrom, storedAll, Further}
 use Rattle.verdict.specs.Verdict.{blank, verdict}
 use Rattle.verdict.specs.Meaning.{nth}
 use Rattle.checker.specs.declared.windows.Seen.{Seen}
@@ -28,6 +28,7 @@ use Rattle.checker.proofs.Scanning.{same-at}
 pub record Under (s : List ℕ) (start : State) (file : List ℕ) (o : State) (seen : Seen) : Type 0 where
   pub rs : List Record
   pub reads : Reads s start rs
+  pub sound : Sound s o
   pub a : ℕ
   pub rest : readFrom s o ≡ records (drop a rs)
   pub covered : Covered (length rs) (length file / 36) (nth rs) (recordIn file) a seen
@@ -37,6 +38,7 @@ pub under-start : (s : List ℕ) (start : State) (file : List ℕ) (seen : Seen)
 under-start s start file seen rs r l e t = record {
   rs = rs;
   reads = r;
+  sound = r .sound;
   a = 0;
   rest = r .gives;
   covered = covered-start (length rs) (length file / 36) (nth rs) (recordIn file) seen l e t;
@@ -77,11 +79,12 @@ module _ (s : List ℕ) (start : State) (file : List ℕ) (o : State) (seen : Se
       omega (arith, same-at (filled k h), last (un .a + k) (omega arith)),
     )
 
-    pub under-on : (to : State) (t : Seen) → readFrom s to ≡ records qs
+    pub under-on : (to : State) (t : Seen) → Sound s to → readFrom s to ≡ records qs
         → Covered (length (un .rs)) (length file / 36) (nth (un .rs)) (recordIn file) (un .a + c) t → Under s start file to t
-    under-on to t e cov = record {
+    under-on to t d e cov = record {
       rs = un .rs;
       reads = un .reads;
+      sound = d;
       a = un .a + c;
       rest = e ∙ ap records later;
       covered = cov;
@@ -130,7 +133,7 @@ module _ (s : List ℕ) (start : State) (file : List ℕ) (o : State) (seen : Se
 
     pub on-under : (t : Seen) → Covers file out seen c hi t → Under s start file to t
     on-under t h =
-        under-on s start file o seen un (f .given) (part .0) (part .2) w c (f .count) room hi last next to t (part .1)
+        under-on s start file o seen un (f .given) (part .0) (part .2) w c (f .count) room hi last next to t (f .sound) (part .1)
         (h (length (un .rs)) (nth (un .rs)) (un .a) (un .covered)
         (rw (f .laid) (fills s start file o seen un (f .given) (part .0) (part .2) w c (f .count) room hi last next)))
 

@@ -8,8 +8,8 @@ use lib.ListN.{length}
 use Rattle.record.specs.declared.Record.{Record}
 use Rattle.record.specs.Range.{InRange}
 use Rattle.grammar.specs.Reading.{records, refusal-of}
-use Rattle.reader.specs.declared.state.State.{State}
-use Rattle.reader.specs.Passed.{readFrom}
+use Rattle.reader.specs.declared.open.State.{State}
+use Rattle.reader.specs.Passed.{Sound, readFrom}
 use Rattle.verdict.specs.Meaning.{nth, Rises}
 use Rattle.checker.specs.declared.order.Run.{Run}
 use Rattle.checker.specs.declared.order.Ordered.{Ordered}
@@ -20,8 +20,9 @@ use Rattle.file.specs.File.{recordIn}
 abbrev pub Fit : List Record → Type 0
 Fit rs = (k : ℕ) → k < length rs → InRange (nth rs k)
 
--- from the state on the text gives these records, which rise and fit
+-- from the state on, which is sound, the text gives these records, which rise and fit
 pub record Reads (s : List ℕ) (o : State) (rs : List Record) : Type 0 where
+  pub sound : Sound s o
   pub gives : readFrom s o ≡ records rs
   pub rises : Rises rs
   pub fit : Fit rs

@@ -5,15 +5,15 @@ ghost use mathlib.Core.List.{List};
 ghost use Rattle.record.specs.declared.Record.{Record};
 ghost use Rattle.file.specs.File.{held};
 ghost use Rattle.grammar.specs.Reading.{records, reading};
-ghost use Rattle.reader.specs.Passed.{readFrom};
+ghost use Rattle.reader.specs.Passed.{Sound, readFrom};
 ghost use Rattle.verdict.specs.Verdict.{checked};
 ghost use Rattle.checker.specs.Passing.{Reads, InOrder};
 use crate::order::Ordered;
 use crate::order::in_order;
 use crate::windows::by_windows;
+use reader::open::State;
 use reader::pass::Begun;
 use reader::pass::begin;
-use reader::state::State;
 use record::Record;
 use refusal::Refusal;
 
@@ -40,7 +40,7 @@ pub fn check(text: &[u8], file: &[u8]) -> Refusal
 }
 
 fn check_from(text: &[u8], start: State, file: &[u8]) -> Refusal
-    requires { ⌜ reading (now text) ≡ readFrom (now text) start ⌝ }
+    requires { ⌜ (reading (now text) ≡ readFrom (now text) start) × Sound (now text) start ⌝ }
     ensures { λ r. ⌜ r ≡ checked (reading (now (text .entry))) (now (file .entry)) ⌝ }
 {
     let c = compare(text, start, file);
@@ -49,7 +49,7 @@ fn check_from(text: &[u8], start: State, file: &[u8]) -> Refusal
 
 // The same from the first state on, with the file's order.
 pub fn compare(text: &[u8], start: State, file: &[u8]) -> Compared
-    requires { ⌜ reading (now text) ≡ readFrom (now text) start ⌝ }
+    requires { ⌜ (reading (now text) ≡ readFrom (now text) start) × Sound (now text) start ⌝ }
     ensures of { λ r. ⌜ r .answer ≡ checked (reading (now (text .entry))) (now (file .entry)) ⌝ }
     ensures held { λ r. ⌜ (r .same ≡ true → reading (now (text .entry)) ≡ records (held (now (file .entry)))) ⌝ }
 {

@@ -4,11 +4,12 @@ ghost use mathlib.Core.Bool.{true};
 ghost use Prim.Native.Nat.{ℕ, _+_, _/_, _≤_, _<_};
 ghost use lib.ListN.{length};
 ghost use Rattle.file.specs.File.{recordIn};
+ghost use Rattle.reader.specs.Passed.{Sound};
 ghost use Rattle.checker.specs.Passing.{Orders, Goes, Ended, stretch};
 use crate::held::same_record;
+use reader::open::State;
 use reader::pass::Passed;
 use reader::pass::pass;
-use reader::state::State;
 use record::Record;
 use refusal::Refusal;
 
@@ -32,6 +33,7 @@ const STRETCH_BYTES: usize = 2304;
 // Reads the text from the state on, a stretch of records at a time, and compares each stretch with what the file has in its place.
 // After the first that differs the rest is read only for a refusal.
 pub(crate) fn in_order(text: &[u8], start: State, file: &[u8]) -> Ordered
+    requires { ⌜ Sound (now text) start ⌝ }
     ensures { λ r. ⌜ Orders (now (text .entry)) start (now (file .entry)) r ⌝ }
 {
     let mut w = [0u8; STRETCH_BYTES];
@@ -39,7 +41,7 @@ pub(crate) fn in_order(text: &[u8], start: State, file: &[u8]) -> Ordered
 }
 
 fn stretches(text: &[u8], start: State, file: &[u8], w: &mut [u8]) -> Ordered
-    requires { ⌜ stretch ≤ length (now w) / 36 ⌝ }
+    requires { ⌜ (stretch ≤ length (now w) / 36) × Sound (now text) start ⌝ }
     ensures { λ r. ⌜ Orders (now (text .entry)) start (now (file .entry)) r ⌝ }
 {
     let mut st = start;
@@ -49,7 +51,7 @@ fn stretches(text: &[u8], start: State, file: &[u8], w: &mut [u8]) -> Ordered
     };
     loop {
         match pass(text, st, w, STRETCH) {
-            Passed::Refused(refusal) => break Ordered::Refused(refusal),
+            Passed::Refused(refusal, _) => break Ordered::Refused(refusal),
             Passed::Over(c) => break at_the_end(run_after(run, w, c, file), file),
             Passed::On(next) => {
                 run = run_after(run, w, STRETCH, file);

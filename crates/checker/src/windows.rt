@@ -14,9 +14,9 @@ ghost use Rattle.checker.specs.Covered.{Covered, Fills};
 ghost use Rattle.checker.specs.Passing.{Reads, width};
 use crate::held::at_of;
 use crate::window::window;
+use reader::open::State;
 use reader::pass::Passed;
 use reader::pass::pass;
-use reader::state::State;
 use record::Record;
 use refusal::Refusal;
 
@@ -103,7 +103,7 @@ fn windows(text: &[u8], start: State, file: &[u8], w: &mut [u8], marks: &mut [u8
     };
     loop {
         match pass(text, st, w, WIDTH) {
-            Passed::Refused(refusal) => break refusal,
+            Passed::Refused(refusal, _) => break refusal,
             Passed::Over(c) => {
                 break verdict_of(seen_after(seen, file, w, c, LAST, marks), file);
             }

@@ -80,7 +80,7 @@ pub extern "C" fn lef_token(
         leave(0, 0, 0, kind, start, stop);
         return tell(refusal, place, line);
     }
-    match take::token_from(text, from as usize, 1) {
+    match take::token_from(&text, from as usize, 1) {
         Taken::Next(t) => {
             leave(t.kind, t.start, t.stop, kind, start, stop);
             tell(Refusal::done(0), place, line)

@@ -1,139 +1,119 @@
--- What the table says of a word by its number, and what a step of a block comes to once its word is known: the rows are gone
--- through with their words as numbers, which is one computation for each block.
-use Prim.Native.Nat.{ℕ}
+-- What an act does, by its number.
+use Prim.Native.Nat.{ℕ, _-_, _/_, _%_, _≤_, _<_}
 use mathlib.Core.Path.{_≡_, refl, sym, ap, _∙_}
-use mathlib.Core.Bool.{cond}
-use mathlib.Core.List.{List, [], _∷_}
-use borrow.Author.Tests.{ne-eqb}
+use mathlib.Core.Bool.{Bool, true, false, cond}
+use mathlib.Core.List.{[], _∷_}
+use native.Mathlib.Decide.{decLt}
+use native.Mathlib.Omega.{arith}
+use borrow.Author.Tests.{lt-ltb, le-ltb, le-leb, lt-leb, ne-eqb}
 use lib.Dec.{eqb}
-use Rattle.refusal.specs.declared.Refusal.{Refusal}
-use Rattle.lexer.specs.declared.Token.{Token}
-use Rattle.word.specs.Words.{keys, values, words, raised, upper, same, firstWhere, wordOf, word}
-use Rattle.word.proofs.Steps.{Nested, Apart, apart}
-use Rattle.parser.specs.declared.shared.Peeked.{Peeked}
-use Rattle.parser.specs.declared.shared.Peeked.the-variants as K
-use Rattle.grammar.specs.Tokens.{ok, next-token}
-use Rattle.grammar.specs.Grammar.{Library, Units, Site, Macro, Pin, Port, Obs, Options, Layer, Act, refuse, Row, Body, keyed, worded, options, parts, counted}
+use Rattle.grammar.specs.Tokens.{Tok, Ahead, Answer, ok, refused}
+use Rattle.grammar.specs.Grammar.{semi, whole, Act, statement, close, refuse, back, upTo54, Body, keyed, worded, options, parts, counted}
 use Rattle.grammar.specs.Table.{body}
-use Rattle.grammar.specs.Engine.{Rec, Frame, get-name}
-use Rattle.grammar.specs.Turns.{Step, halts, actFor, perform, peek-key, judged, step}
+use Rattle.grammar.specs.Engine.{Frame}
+use Rattle.grammar.specs.Turns.{halts, backs, perform}
 use Rattle.grammar.specs.Reading.{Mark}
-use Rattle.parser.specs.Code.{bytesOf, tokOf, aheadOf}
-use Rattle.parser.specs.Stepped.{Entry, filedStep, asPeeked, stepIn}
+use Rattle.rows.specs.Packed.{blockOf, itemsOf, moveOf, plain, actOf, formOf, formIn, partOf, partIn, endIn}
+use Rattle.parser.specs.Stepped.{runs, stoppedAs, SameAct}
 
-abbrev pub rowsOf : Body → List Row
-rowsOf (keyed n rows) = rows
-rowsOf (worded rows) = rows
-rowsOf (options rows b) = rows
-rowsOf (parts k is) = []
-rowsOf (counted k is) = []
+-- a head that holds at every version
+pub low-act : (h i : ℕ) → h % 256 < 128 → actOf h i ≡ plain (h % 256) (h / 256) i
+unfolding actOf
+low-act h i l = let e : h % 128 ≡ h % 256 = omega arith in rw (lt-leb 128 (h % 256) l, e)
 
-abbrev wordsIn : List Row → List ℕ
-wordsIn [] = []
-wordsIn (r ∷ rs) = word (r .begin) ∷ wordsIn rs
+-- its kinds
+pub plain-record : (n m i : ℕ) → n < 64 → plain n m i ≡ statement n (itemsOf i) (moveOf m)
+unfolding plain
+plain-record n m i l = rw (lt-ltb n 64 l)
 
--- the numbers of the words that begin the rows of a block
-abbrev pub wordsOf : Body → List ℕ
-wordsOf b = wordsIn (rowsOf b)
+pub plain-close : (n m i : ℕ) → n ≡ 64 → plain n m i ≡ close (itemsOf i)
+unfolding plain
+plain-close n m i e = rw e
 
--- the act of the row at the place where the number stands
-abbrev pub actAt : ℕ → ℕ → List ℕ → List Row → Act
-actAt n k [] rows = refuse n
-actAt n k (w ∷ ws) [] = refuse n
-actAt n k (w ∷ ws) (r ∷ rs) = cond (eqb w k) (r .act) (actAt n k ws rs)
+plain-stop : (n m i : ℕ) → 64 < n → plain n m i ≡ cond (eqb n 66) back (refuse (n - 80))
+unfolding plain
+plain-stop n m i l = rw (le-ltb n 64 (omega arith), ne-eqb n 64 (λ e. omega arith))
 
-by-words : (n k : ℕ) (rows : List Row) → actFor n k rows ≡ actAt n k (wordsIn rows) rows
-unfolding actFor
-by-words n k [] = refl
-by-words n k (r ∷ rs) = ap (cond (eqb (word (r .begin)) k) (r .act)) (by-words n k rs)
-
-apart-at : (n k : ℕ) (ws : List ℕ) (rows : List Row) → Apart k ws → actAt n k ws rows ≡ refuse n
-apart-at n k [] rows h = refl
-apart-at n k (w ∷ ws) [] h = refl
-apart-at n k (w ∷ ws) (r ∷ rs) h = rw (ne-eqb w k (λ e. h .0 (sym e))) (apart-at n k ws rs (h .1))
-
--- the act for a word whose number is known, and for one that begins no row
-pub act-is : (n w u : ℕ) (rows : List Row) (ws : List ℕ) → wordsIn rows ≡ ws → w ≡ u → actAt n u ws rows ≡ actFor n w rows
-act-is n w u rows ws q e = sym (by-words n w rows ∙ rw (q, e))
-
-pub act-none : (n w : ℕ) (rows : List Row) (ws : List ℕ) → wordsIn rows ≡ ws → Nested w ws (Unit {0}) → refuse n ≡ actFor n w rows
-act-none n w rows ws q h = sym (by-words n w rows ∙ rw q (apart-at n w ws rows (apart w ws (Unit {0}) h .1)))
-
--- A BLOCK WHOSE KEY WORD IS LOOKED AT
-
-module _ (s : List ℕ) (v : ℕ) (f : Frame ℕ) (t : Token) (n : ℕ) (rows : List Row) where
-  abbrev looking : ℕ → Step ℕ Mark (Rec ℕ)
-  looking k = perform v f (aheadOf s t) (next-token (aheadOf s t)) (record { place = t .stop; line = t .line }) (actFor n k rows)
-
-  -- what the act does
-  abbrev pub doing : Act → Step ℕ Mark Entry
-  doing act = filedStep (perform v f (aheadOf s t) (next-token (aheadOf s t)) (record { place = t .stop; line = t .line }) act)
-
-  module _ (ws : List ℕ) (q : wordsIn rows ≡ ws) (p : Peeked) (h : (k : ℕ → Step ℕ Mark (Rec ℕ)) → asPeeked p k ≡ peek-key (aheadOf s t) k) where
-    pub looked : (w u : ℕ) → p ≡ K.Is w → w ≡ u → doing (actAt n u ws rows) ≡ stepIn s v f t (keyed n rows)
-    unfolding step
-    looked w u e k = ap doing (act-is n w u rows ws q k) ∙ ap filedStep (rw e at (h looking))
-
-    pub unlisted : (w : ℕ) → p ≡ K.Is w → Nested w ws (Unit {0}) → halts n (record { place = t .stop; line = t .line }) ≡ stepIn s v f t (keyed n rows)
-    unfolding step perform
-    unlisted w e k = ap doing (act-none n w rows ws q k) ∙ ap filedStep (rw e at (h looking))
-
-    pub unseen : (r : Refusal) → p ≡ K.Refused r → halts (r .number) (record { place = r .place; line = r .line }) ≡ stepIn s v f t (keyed n rows)
-    unfolding step
-    unseen r e = ap filedStep (rw e at (h looking))
-
--- A BLOCK WHOSE WORD IS TAKEN FIRST
-
-module _ (s : List ℕ) (v : ℕ) (f : Frame ℕ) (t u : Token) (rows : List Row) (ws : List ℕ) (q : wordsIn rows ≡ ws)
-    (h : get-name (aheadOf s t) ≡ ok (tokOf s t) (aheadOf s u)) (w : ℕ) (k : w ≡ wordOf (bytesOf s t)) where
-  -- what the act does
-  abbrev acting : Act → Step ℕ Mark Entry
-  acting act = filedStep (perform v f (aheadOf s t) (ok (tokOf s t) (aheadOf s u)) (record { place = u .stop; line = u .line }) act)
-
-  taken-so : acting (actFor 5 (wordOf (bytesOf s t)) rows) ≡ filedStep (judged v f (aheadOf s t) rows (get-name (aheadOf s t)))
-  taken-so = ap (λ z. filedStep (judged v f (aheadOf s t) rows z)) (sym h)
-
-  pub judged-as : (m : ℕ) → w ≡ m → acting (actAt 5 m ws rows) ≡ filedStep (judged v f (aheadOf s t) rows (get-name (aheadOf s t)))
-  judged-as m e = ap acting (act-is 5 (wordOf (bytesOf s t)) m rows ws q (sym k ∙ e)) ∙ taken-so
-
-  pub judged-none : Nested w ws (Unit {0}) → halts 5 (record { place = u .stop; line = u .line }) ≡ filedStep (judged v f (aheadOf s t) rows (get-name (aheadOf s t)))
+module _ (v : ℕ) (f : Frame ℕ) (a : Ahead ℕ Mark) (n m i : ℕ) where
+  plain-runs : (t : Tok ℕ Mark) (b : Ahead ℕ Mark) (p : Mark) → n ≤ 64 → runs f a b (plain n m i) ≡ perform v f a (ok t b) p (plain n m i)
   unfolding perform
-  judged-none e = ap acting (act-none 5 (wordOf (bytesOf s t)) rows ws q (rw k at e)) ∙ taken-so
+  plain-runs t b p l = elim (decLt n 64) [
+    | yes q ↦ rw (plain-record n m i q)
+    | no q ↦ rw (plain-close n m i (omega arith))
+  ]
 
--- THE WORDS OF EACH BLOCK
+  plain-refused : (k : ℕ) (q p : Mark) → n ≤ 64 → halts k q ≡ perform v f a (refused k q) p (plain n m i)
+  unfolding perform
+  plain-refused k q p l = elim (decLt n 64) [
+    | yes g ↦ rw (plain-record n m i g)
+    | no g ↦ rw (plain-close n m i (omega arith))
+  ]
 
-pub library-words : wordsOf (body Library) ≡ 2 ∷ 28 ∷ 29 ∷ 6 ∷ 7 ∷ 30 ∷ 25 ∷ 8 ∷ 31 ∷ 9 ∷ []
-unfolding keys values words raised upper same firstWhere wordOf
-library-words = refl
+  plain-stopped : (taken : Answer ℕ Mark (Tok ℕ Mark)) (p : Mark) → 64 < n → stoppedAs n p ≡ perform v f a taken p (plain n m i)
+  unfolding perform
+  plain-stopped taken p l = rw (plain-stop n m i l) (either (eqb n 66))
+    where
+      either : (t : Bool) → cond t backs (halts (n - 80) p) ≡ perform v f a taken p (cond t back (refuse (n - 80)))
+      either true = refl
+      either false = refl
 
-pub units-words : wordsOf (body Units) ≡ 93 ∷ 95 ∷ 96 ∷ 97 ∷ 69 ∷ 98 ∷ 99 ∷ 100 ∷ 9 ∷ []
-unfolding keys values words raised upper same firstWhere wordOf
-units-words = refl
+-- the same of the act in its place
+module _ (v : ℕ) (f : Frame ℕ) (a : Ahead ℕ Mark) (h i : ℕ) (held act : Act) (l : h % 256 < 128) (same : SameAct v (actOf h i) held) (is : held ≡ act) where
+  performs : (taken : Answer ℕ Mark (Tok ℕ Mark)) (p : Mark) → perform v f a taken p (plain (h % 256) (h / 256) i) ≡ perform v f a taken p act
+  performs taken p = ap (perform v f a taken p) (sym (low-act h i l)) ∙ same f a taken p ∙ ap (perform v f a taken p) is
 
-pub site-words : wordsOf (body Site) ≡ 22 ∷ 23 ∷ 26 ∷ 24 ∷ 9 ∷ []
-unfolding keys values words raised upper same firstWhere wordOf
-site-words = refl
+  pub act-runs : (t : Tok ℕ Mark) (b : Ahead ℕ Mark) (p : Mark) → h % 256 ≤ 64 → runs f a b (actOf h i) ≡ perform v f a (ok t b) p act
+  act-runs t b p q = rw (low-act h i l) (plain-runs v f a (h % 256) (h / 256) i t b p q ∙ performs (ok t b) p)
 
-pub macro-words : wordsOf (body Macro) ≡ 22 ∷ 25 ∷ 3 ∷ 4 ∷ 26 ∷ 23 ∷ 5 ∷ 10 ∷ 12 ∷ 9 ∷ []
-unfolding keys values words raised upper same firstWhere wordOf
-macro-words = refl
+  pub act-refused : (k : ℕ) (q p : Mark) → h % 256 ≤ 64 → halts k q ≡ perform v f a (refused k q) p act
+  act-refused k q p g = plain-refused v f a (h % 256) (h / 256) i k q p g ∙ performs (refused k q) p
 
-pub pin-words : wordsOf (body Pin) ≡ 14 ∷ 15 ∷ 16 ∷ 41 ∷ 42 ∷ 43 ∷ 44 ∷ 45 ∷ 46 ∷ 47 ∷ 48 ∷ 49 ∷ 50 ∷ 11 ∷ 51 ∷ 52 ∷ 53 ∷ 54 ∷ 55 ∷ 56 ∷ 9 ∷ []
-unfolding keys values words raised upper same firstWhere wordOf
-pin-words = refl
+  pub act-stopped : (taken : Answer ℕ Mark (Tok ℕ Mark)) (p : Mark) → 64 < h % 256 → stoppedAs (h % 256) p ≡ perform v f a taken p act
+  act-stopped taken p q = plain-stopped v f a (h % 256) (h / 256) i taken p q ∙ performs taken p
 
-pub port-words : wordsOf (body Port) ≡ 22 ∷ 13 ∷ 9 ∷ []
-unfolding keys values words raised upper same firstWhere wordOf
-port-words = refl
+-- an act whose items follow
+abbrev pub Follows : Act → Type 0
+Follows (statement k is m) = Unit {0}
+Follows (close is) = Unit {0}
+Follows (refuse n) = ⊥
+Follows back = ⊥
+Follows (upTo54 act) = ⊥
 
-pub obs-words : wordsOf (body Obs) ≡ 13 ∷ 9 ∷ []
-unfolding keys values words raised upper same firstWhere wordOf
-obs-words = refl
+never-follows : (t : Bool) (n : ℕ) → Follows (cond t back (refuse n)) → ⊥
+never-follows true n x = x
+never-follows false n x = x
 
-pub options-words : wordsOf (body Options) ≡ 37 ∷ 39 ∷ 38 ∷ []
-unfolding keys values words raised upper same firstWhere wordOf
-options-words = refl
+older : (h i : ℕ) → 128 ≤ h % 256 → Follows (actOf h i) → ⊥
+unfolding actOf
+older h i g x = rw (le-leb 128 (h % 256) g) at x
 
-pub layer-words : wordsOf (body Layer) ≡ 21 ∷ 19 ∷ 18 ∷ 17 ∷ 20 ∷ 13 ∷ 9 ∷ []
-unfolding keys values words raised upper same firstWhere wordOf
-layer-words = refl
+-- has a number of those
+pub low-head : (h i : ℕ) (act : Act) → actOf h i ≡ act → Follows act → h % 256 ≤ 64
+low-head h i act e x = elim (decLt (h % 256) 128) [
+  | yes l ↦ elim (decLt 64 (h % 256)) [
+    | yes q ↦ absurd (never-follows (eqb (h % 256) 66) (h % 256 - 80) (rw (← e, low-act h i l, plain-stop (h % 256) (h / 256) i q) at x))
+    | no q ↦ omega arith
+  ]
+  | no l ↦ absurd (older h i (omega arith) (rw (← e) at x))
+]
+
+-- so the parts of a block, and their end
+part-follows : (b : Body) → 3 ≤ formOf b → Follows (partOf b)
+unfolding formOf partOf
+part-follows (keyed n rows) l = absurd (omega (arith, l))
+part-follows (worded rows) l = absurd (omega (arith, l))
+part-follows (options rows n) l = absurd (omega (arith, l))
+part-follows (parts k is) l = tt
+part-follows (counted k is) l = tt
+
+pub part-low : (h i b : ℕ) → actOf h i ≡ partIn b → 3 ≤ formIn b → h % 256 ≤ 64
+unfolding formIn partIn
+part-low h i b e l = low-head h i (partOf (body (blockOf b))) e (part-follows (body (blockOf b)) l)
+
+end-follows : (t : Bool) → Follows (cond t (close (semi ∷ [])) (close (whole 6 ∷ semi ∷ [])))
+end-follows true = tt
+end-follows false = tt
+
+pub end-low : (h i n : ℕ) → actOf h i ≡ endIn n → h % 256 ≤ 64
+unfolding endIn
+end-low h i n e = low-head h i (endIn n) e (end-follows (eqb n 4))

@@ -5,7 +5,7 @@ use mathlib.Core.List.{List, [], _∷_, map}
 use native.Mathlib.Omega.{arith}
 use borrow.Author.Tests.{ne-eqb, eq-eqb}
 use lib.ListN.{length, take, drop, drop-of-length-le, length-take, length-drop}
-use lib.Seq.{take-all, take-nil}
+use lib.Seq.{take-all, take-nil, take-take, drop-drop}
 use Rattle.lexer.specs.declared.Token.{Token}
 use Rattle.lexer.specs.declared.Lexed.{Lexed}
 use Rattle.lexer.specs.declared.Lexed.the-variants.{Found, End, Bad}
@@ -31,7 +31,7 @@ at-end s h z = rw (eq-eqb (h .kind) 0 z)
 
 -- any other token is, and the lexer's answer from its stop on is held next
 module _ (s : List ℕ) (h : Token) (z : h .kind ≡ 0 → ⊥) where
-  taken : (r : Lexed) → r ≡ lexFrom s (h .stop) (h .line) → asTaken s h (heldNext s r) ≡ next-token (aheadOf s h)
+  pub taken : (r : Lexed) → r ≡ lexFrom s (h .stop) (h .line) → asTaken s h (heldNext s r) ≡ next-token (aheadOf s h)
   unfolding next restOf
   taken (Found t) q =
       let k : (1 ≤ t .kind) × (t .kind ≤ 4) = rw (← q) at (kinded s (h .stop) (h .line)) in
@@ -64,6 +64,18 @@ as-long (suc n) (b ∷ l) = ap (b ∷_) (as-long n l)
 -- what stands inside quotes, of a token whose length is known
 pub inside-long : (n : ℕ) (l : List ℕ) → length l ≡ n + 2 → length (take n (drop 1 l)) ≡ n
 inside-long n l e = omega (arith, length-take n (drop 1 l), length-drop 1 l, e)
+
+-- the front of a part's rest, as far as the part goes
+within : (n m : ℕ) (l : List ℕ) → n + 1 ≤ m → take n (drop 1 (take m l)) ≡ take n (drop 1 l)
+within n zero l h = absurd (omega arith)
+within n (suc m) [] h = refl
+within n (suc m) (b ∷ l) h = take-take n m l (omega arith)
+
+-- what stands inside quotes, of a token whose length is known, stands in the text one byte after the token's start
+pub inside-at : (s : List ℕ) (a m n : ℕ) → length (take m (drop a s)) ≡ n + 2 → take n (drop 1 (take m (drop a s))) ≡ take n (drop (a + 1) s)
+inside-at s a m n e =
+    within n m (drop a s) (omega (arith, length-take m (drop a s), e))
+    ∙ ap (take n) (drop-drop 1 a s)
 
 -- a part that has bytes starts within the text
 pub span-within : (s : List ℕ) (a n k : ℕ) → length (take n (drop a s)) ≡ k → 1 ≤ k → a < length s

@@ -1,4 +1,12 @@
-pub mod Acts
 pub mod Ahead
-pub mod Items
-pub mod Rows
+pub mod Taking
+pub mod Listed
+pub mod Begins
+pub mod Unpack
+pub mod Ranges
+pub mod Alike
+pub mod Turning
+pub mod Forms
+pub mod Acts
+pub mod Chosen
+pub mod Shown

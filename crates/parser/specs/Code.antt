@@ -1,7 +1,8 @@
 -- Inner machinery, which nobody has to believe: what the code's values stand for in the definition.
--- The images `asTaken`, `asNumber`, `asWord`, `asX`, `asXY`, `asCode`, `asFirst` and `asRec` forget nothing of an answer: a token is read back
--- from `tokOf` (kind, start, stop and line stand in it), and a refusal from `refuse`. So a contract that equates one settles the answer.
+-- The images `asTaken`, `asNumber` and `asWord` forget nothing of an answer: a token is read back from `tokOf` (kind, start, stop and line
+-- stand in it), and a refusal from `refuse`. So a contract that equates one settles the answer; `asPeeked` does where it is equated for every k.
 use Prim.Native.Nat.{ℕ, _-_}
+use mathlib.Core.Path.{_≡_}
 use mathlib.Core.Bool.{cond}
 use mathlib.Core.List.{List, [], map}
 use lib.Dec.{eqb}
@@ -14,17 +15,15 @@ use Rattle.lexer.specs.declared.Lexed.the-variants.{Found, End, Bad}
 use Rattle.lexer.specs.Lex.{from}
 use Rattle.lexer.specs.Numbers.{badByte}
 use Rattle.parser.specs.declared.take.Taken.{Taken}
-use Rattle.parser.specs.declared.take.Taken.the-variants as T
+use Rattle.parser.specs.declared.take.Taken.the-variants as N
 use Rattle.parser.specs.declared.take.Number.{Number}
-use Rattle.parser.specs.declared.take.Number.the-variants as N
+use Rattle.parser.specs.declared.take.Number.the-variants as Num
 use Rattle.parser.specs.declared.take.Word.{Word}
 use Rattle.parser.specs.declared.take.Word.the-variants as W
-use Rattle.parser.specs.declared.statement.Point.{Point}
-use Rattle.parser.specs.declared.statement.Point.the-variants as P
-use Rattle.grammar.specs.Tokens.{Tok, Ahead, Answer, ok, refused, then, end}
-use Rattle.grammar.specs.Tokens.{next-token}
-use Rattle.grammar.specs.Grammar.{Item}
-use Rattle.grammar.specs.Engine.{Rec, Frame, Draft, setX, setY, setCode, setFirst, items}
+use Rattle.parser.specs.declared.peek.Peeked.{Peeked}
+use Rattle.parser.specs.declared.peek.Peeked.the-variants as K
+use Rattle.grammar.specs.Tokens.{Tok, Ahead, Answer, ok, refused, end, next-token}
+use Rattle.grammar.specs.Turns as T
 use Rattle.grammar.specs.Reading.{Mark, tok}
 
 -- the bytes of a token
@@ -42,6 +41,10 @@ restOf s t = cond (eqb (t .kind) end) [] (map (tok s) (from s (t .stop) (t .line
 abbrev pub aheadOf : List ℕ → Token → Ahead ℕ Mark
 aheadOf s t = record { held = tokOf s t; rest = restOf s t }
 
+-- taking the token h, which a has held, has t held next
+abbrev pub Took : List ℕ → Token → Token → Ahead ℕ Mark → Type 0
+Took s h t a = next-token a ≡ ok (tokOf s h) (aheadOf s t)
+
 -- a complaint while the token t is held
 abbrev pub complaint : ℕ → Token → Refusal
 complaint n t = refusal n (t .stop) (t .line)
@@ -55,18 +58,18 @@ endOf s n = record { kind = end; start = length s; stop = length s; line = n }
 
 -- the token that the lexer's answer has the code hold, or refusal 3
 abbrev pub heldNext : List ℕ → Lexed → Taken
-heldNext s (Found t) = T.Next t
-heldNext s (End n) = T.Next (endOf s n)
-heldNext s (Bad i n) = T.Refused (badByte i n)
+heldNext s (Found t) = N.Next t
+heldNext s (End n) = N.Next (endOf s n)
+heldNext s (Bad i n) = N.Refused (badByte i n)
 
 -- the takers' answers; h is the token that was taken
 abbrev pub asTaken : List ℕ → Token → Taken → Answer ℕ Mark (Tok ℕ Mark)
-asTaken s h (T.Next t) = ok (tokOf s h) (aheadOf s t)
-asTaken s h (T.Refused r) = refuse r
+asTaken s h (N.Next t) = ok (tokOf s h) (aheadOf s t)
+asTaken s h (N.Refused r) = refuse r
 
 abbrev pub asNumber : List ℕ → Number → Answer ℕ Mark ℕ
-asNumber s (N.Value v t) = ok v (aheadOf s t)
-asNumber s (N.Refused r) = refuse r
+asNumber s (Num.Value v t) = ok v (aheadOf s t)
+asNumber s (Num.Refused r) = refuse r
 
 abbrev pub asWord : List ℕ → Word → Answer ℕ Mark ℕ
 asWord s (W.Is k t) = ok k (aheadOf s t)
@@ -74,48 +77,22 @@ asWord s (W.Refused r) = refuse r
 
 -- what an answer that is no success was refused for
 abbrev pub whyTaken : Taken → Refusal
-whyTaken (T.Next t) = complaint 0 t
-whyTaken (T.Refused r) = r
+whyTaken (N.Next t) = complaint 0 t
+whyTaken (N.Refused r) = r
 
 abbrev pub whyNumber : Number → Refusal
-whyNumber (N.Value v t) = complaint 0 t
-whyNumber (N.Refused r) = r
-
-abbrev pub whyPoint : Point → Refusal
-whyPoint (P.At v w t) = complaint 0 t
-whyPoint (P.Refused r) = r
+whyNumber (Num.Value v t) = complaint 0 t
+whyNumber (Num.Refused r) = r
 
 abbrev pub whyWord : Word → Refusal
 whyWord (W.Is k t) = complaint 0 t
 whyWord (W.Refused r) = r
 
--- STATEMENTS
+-- the key word that was looked at, and what follows from it
+abbrev pub asPeeked : {R : Type 0} → Peeked → (ℕ → T.Step ℕ Mark R) → T.Step ℕ Mark R
+asPeeked (K.Is w) k = k w
+asPeeked (K.Refused r) k = T.halts (r .number) (record { place = r .place; line = r .line })
 
--- a statement whose word is held: the word is taken, then the items
-abbrev pub afterWord : List Item → Frame ℕ → Draft ℕ → Ahead ℕ Mark → Answer ℕ Mark (Draft ℕ)
-afterWord is f d a = then (next-token a) (λ t b. items 0 f is d b)
-
--- what the statements' answers set in the draft d
-abbrev pub asX : List ℕ → Draft ℕ → Number → Answer ℕ Mark (Draft ℕ)
-asX s d (N.Value v t) = ok (setX v d) (aheadOf s t)
-asX s d (N.Refused r) = refuse r
-
-abbrev pub asXY : List ℕ → Draft ℕ → Point → Answer ℕ Mark (Draft ℕ)
-asXY s d (P.At v w t) = ok (setY w (setX v d)) (aheadOf s t)
-asXY s d (P.Refused r) = refuse r
-
-abbrev pub asCode : List ℕ → Draft ℕ → Word → Answer ℕ Mark (Draft ℕ)
-asCode s d (W.Is c t) = ok (setCode c d) (aheadOf s t)
-asCode s d (W.Refused r) = refuse r
-
-abbrev pub asFirst : List ℕ → Draft ℕ → Word → Answer ℕ Mark (Draft ℕ)
-asFirst s d (W.Is w t) = ok (setFirst w d) (aheadOf s t)
-asFirst s d (W.Refused r) = refuse r
-
--- of a value of one word or two only the record counts, which has the code
-abbrev pub recordAfter : List Item → Frame ℕ → Draft ℕ → Ahead ℕ Mark → Answer ℕ Mark (Rec ℕ)
-recordAfter is f d a = then (afterWord is f d a) (λ e b. ok (e .rec) b)
-
-abbrev pub asRec : List ℕ → Draft ℕ → Word → Answer ℕ Mark (Rec ℕ)
-asRec s d (W.Is c t) = ok (setCode c d .rec) (aheadOf s t)
-asRec s d (W.Refused r) = refuse r
+abbrev pub whyPeeked : Token → Peeked → Refusal
+whyPeeked t (K.Is w) = complaint 0 t
+whyPeeked t (K.Refused r) = r

@@ -1,3 +1,4 @@
 pub mod Code
 pub mod Kept
+pub mod Drafts
 pub mod Stepped

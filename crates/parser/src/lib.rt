@@ -1,14 +1,10 @@
-// The parser of LEF text: what each block makes of the tokens ahead of it, held beside the functions of the original.
-pub mod geometry;
-pub mod layer;
-pub mod library;
-pub mod macros;
-pub mod pin;
-pub mod port;
-mod shared;
-pub mod site;
-mod statement;
+// The parser of LEF text: the takers, by the names of the original, and the engine that runs the rows of the table.
+pub mod draft;
+pub mod engine;
+mod items;
+pub mod open;
+pub mod peek;
 pub mod step;
 pub mod take;
-pub mod units;
+mod value;
 mod words;

@@ -1,12 +1,15 @@
 // Taking tokens, as the original's parser does: the token held is handed in, and the one held next comes back. Taking first
-// reads the next token, so a byte that starts none is refused before any complaint about the token taken.
+// reads the next token, so a byte that starts none is refused before any complaint about the token taken. The takers are handed both
+// tokens, and judge the one taken.
 ghost use mathlib.Core.Path.{_≡_};
-ghost use Prim.Native.Nat.{_-_};
+ghost use mathlib.Core.List.{List};
+ghost use Prim.Native.Nat.{ℕ, _-_};
 ghost use lib.ListN.{take, drop};
 ghost use Rattle.lexer.specs.Lex.{lexFrom};
-ghost use Rattle.grammar.specs.Tokens.{expect, next-token};
+ghost use Rattle.grammar.specs.Tokens.{Ahead, expect, next-token};
 ghost use Rattle.grammar.specs.Engine.{get-name, get-key, expect-key, expect-keyword, expect-ident, parse-number, parse-enum};
-ghost use Rattle.parser.specs.Code.{complaint, aheadOf, heldNext, asTaken, asNumber, asWord, whyTaken};
+ghost use Rattle.grammar.specs.Reading.{Mark};
+ghost use Rattle.parser.specs.Code.{complaint, aheadOf, Took, heldNext, asTaken, asNumber, asWord, whyTaken, whyNumber, whyWord};
 ghost use Rattle.parser.specs.Kept.{nameIn};
 ghost use Rattle.word.specs.Words.{same};
 ghost use Rattle.word.specs.Codes.{codeOf};
@@ -45,21 +48,26 @@ pub fn complain(number: usize, held: Token) -> Refusal
 }
 
 // Takes the token held.
-pub fn next_token(text: &[u8], held: Token) -> Taken
-    ensures { λ r. ⌜ asTaken (now (text .entry)) held r ≡ next-token (aheadOf (now (text .entry)) held) ⌝ }
+pub fn next_token(lent: &&[u8], held: Token) -> Taken
+    ensures { λ r. ⌜ asTaken (now (now (lent .entry))) held r ≡ next-token (aheadOf (now (now (lent .entry))) held) ⌝ }
 {
     let kind = held.kind;
     if kind == 0 {
         return Taken::Refused(complain(4, held));
     }
-    token_from(text, held.stop, held.line)
+    token_from(lent, held.stop, held.line)
 }
 
-// The first token from a place of the text on, which is on the line given.
-pub fn token_from(text: &[u8], place: usize, line: usize) -> Taken
-    ensures { λ r. ⌜ r ≡ heldNext (now (text .entry)) (lexFrom (now (text .entry)) place line) ⌝ }
+// The same, where mostly a space and then a short token come next.
+pub(crate) fn next_near(lent: &&[u8], held: Token) -> Taken
+    ensures { λ r. ⌜ asTaken (now (now (lent .entry))) held r ≡ next-token (aheadOf (now (now (lent .entry))) held) ⌝ }
 {
-    match lexer::lex(text, place, line) {
+    let kind = held.kind;
+    if kind == 0 {
+        return Taken::Refused(complain(4, held));
+    }
+    let text = *lent;
+    match lexer::lex_near(lent, held.stop, held.line) {
         Lexed::Found(t) => Taken::Next(t),
         Lexed::End(last) => Taken::Next(Token {
             kind: 0,
@@ -71,13 +79,26 @@ pub fn token_from(text: &[u8], place: usize, line: usize) -> Taken
     }
 }
 
-pub fn expect(text: &[u8], held: Token, kind: usize) -> Taken
-    ensures { λ r. ⌜ asTaken (now (text .entry)) held r ≡ expect kind (aheadOf (now (text .entry)) held) ⌝ }
+// The first token from a place of the text on, which is on the line given.
+pub fn token_from(lent: &&[u8], place: usize, line: usize) -> Taken
+    ensures { λ r. ⌜ r ≡ heldNext (now (now (lent .entry))) (lexFrom (now (now (lent .entry))) place line) ⌝ }
 {
-    let answer = next_token(text, held);
-    let Taken::Next(next) = answer else {
-        return answer;
-    };
+    let text = *lent;
+    match lexer::lex_in(lent, place, line) {
+        Lexed::Found(t) => Taken::Next(t),
+        Lexed::End(last) => Taken::Next(Token {
+            kind: 0,
+            start: text.len(),
+            stop: text.len(),
+            line: last,
+        }),
+        Lexed::Bad(bad, on) => Taken::Refused(Refusal::no_token(bad, on)),
+    }
+}
+
+pub fn expect(held: Token, next: Token, kind: usize) -> Taken
+    ensures { λ r. ⌜ ((s : List ℕ) (a : Ahead ℕ Mark) → Took s held next a → asTaken s held r ≡ expect kind a) ⌝ }
+{
     let k = held.kind;
     if k == kind {
         Taken::Next(next)
@@ -104,21 +125,21 @@ pub fn txt(text: &[u8], t: Token) -> &[u8]
     &text[a..e]
 }
 
-pub fn get_name(text: &[u8], held: Token) -> Taken
-    ensures { λ r. ⌜ asTaken (now (text .entry)) held r ≡ get-name (aheadOf (now (text .entry)) held) ⌝ }
+pub fn get_name(held: Token, next: Token) -> Taken
+    ensures { λ r. ⌜ ((s : List ℕ) (a : Ahead ℕ Mark) → Took s held next a → asTaken s held r ≡ get-name a) ⌝ }
 {
-    expect(text, held, Token::NAME)
+    expect(held, next, Token::NAME)
 }
 
 // The number of a key word.
-pub fn get_key(text: &[u8], held: Token) -> Word
-    ensures { λ r. ⌜ asWord (now (text .entry)) r ≡ get-key (aheadOf (now (text .entry)) held) ⌝ }
+pub fn get_key(lent: &&[u8], held: Token, next: Token) -> Word
+    ensures { λ r. ⌜ ((a : Ahead ℕ Mark) → Took (now (now (lent .entry))) held next a → asWord (now (now (lent .entry))) r ≡ get-key a) ⌝ }
 {
-    let answer = get_name(text, held);
+    let answer = get_name(held, next);
     let Taken::Next(next) = answer else {
         return Word::Refused(taken_refusal(answer));
     };
-    let w = word::word_of(txt(text, held));
+    let w = word::word_in(lent, held.start, held.stop);
     if word::is_key(w) {
         Word::Is(w, next)
     } else {
@@ -127,10 +148,10 @@ pub fn get_key(text: &[u8], held: Token) -> Word
 }
 
 // This key word.
-pub fn expect_key(text: &[u8], held: Token, key: u8) -> Word
-    ensures { λ r. ⌜ asWord (now (text .entry)) r ≡ expect-key key (aheadOf (now (text .entry)) held) ⌝ }
+pub fn expect_key(lent: &&[u8], held: Token, next: Token, key: u8) -> Word
+    ensures { λ r. ⌜ ((a : Ahead ℕ Mark) → Took (now (now (lent .entry))) held next a → asWord (now (now (lent .entry))) r ≡ expect-key key a) ⌝ }
 {
-    let answer = get_key(text, held);
+    let answer = get_key(lent, held, next);
     let Word::Is(w, next) = answer else {
         return answer;
     };
@@ -142,14 +163,14 @@ pub fn expect_key(text: &[u8], held: Token, key: u8) -> Word
 }
 
 // This word, be it a key word or not.
-pub fn expect_keyword(text: &[u8], held: Token, key: u8) -> Word
-    ensures { λ r. ⌜ asWord (now (text .entry)) r ≡ expect-keyword key (aheadOf (now (text .entry)) held) ⌝ }
+pub fn expect_keyword(lent: &&[u8], held: Token, next: Token, key: u8) -> Word
+    ensures { λ r. ⌜ ((a : Ahead ℕ Mark) → Took (now (now (lent .entry))) held next a → asWord (now (now (lent .entry))) r ≡ expect-keyword key a) ⌝ }
 {
-    let answer = get_name(text, held);
+    let answer = get_name(held, next);
     let Taken::Next(next) = answer else {
         return Word::Refused(taken_refusal(answer));
     };
-    let w = word::word_of(txt(text, held));
+    let w = word::word_in(lent, held.start, held.stop);
     if w == key {
         Word::Is(key, next)
     } else {
@@ -158,13 +179,14 @@ pub fn expect_keyword(text: &[u8], held: Token, key: u8) -> Word
 }
 
 // The name of so many bytes at a place of the text again, byte by byte.
-pub fn expect_ident(text: &[u8], held: Token, title: usize, len: usize) -> Taken
-    ensures { λ r. ⌜ asTaken (now (text .entry)) held r ≡ expect-ident (nameIn (now (text .entry)) title len) (aheadOf (now (text .entry)) held) ⌝ }
+pub fn expect_ident(lent: &&[u8], held: Token, next: Token, title: usize, len: usize) -> Taken
+    ensures { λ r. ⌜ ((a : Ahead ℕ Mark) → Took (now (now (lent .entry))) held next a → asTaken (now (now (lent .entry))) held r ≡ expect-ident (nameIn (now (now (lent .entry))) title len) a) ⌝ }
 {
-    let answer = get_name(text, held);
+    let answer = get_name(held, next);
     let Taken::Next(next) = answer else {
         return answer;
     };
+    let text = *lent;
     if same_bytes(txt(text, held), name_in(text, title, len)) {
         Taken::Next(next)
     } else {
@@ -203,13 +225,14 @@ fn same_bytes(a: &[u8], b: &[u8]) -> bool
 }
 
 // A number, as a record stores it.
-pub fn parse_number(text: &[u8], held: Token) -> Number
-    ensures { λ r. ⌜ asNumber (now (text .entry)) r ≡ parse-number (aheadOf (now (text .entry)) held) ⌝ }
+pub fn parse_number(lent: &&[u8], held: Token, next: Token) -> Number
+    ensures { λ r. ⌜ ((a : Ahead ℕ Mark) → Took (now (now (lent .entry))) held next a → asNumber (now (now (lent .entry))) r ≡ parse-number a) ⌝ }
 {
-    let answer = expect(text, held, Token::NUMBER);
+    let answer = expect(held, next, Token::NUMBER);
     let Taken::Next(next) = answer else {
         return Number::Refused(taken_refusal(answer));
     };
+    let text = *lent;
     let value = numeral::numeral(txt(text, held));
     let Value::Scaled(negative, m) = value else {
         return Number::Refused(complain(9, next));
@@ -218,14 +241,14 @@ pub fn parse_number(text: &[u8], held: Token) -> Number
 }
 
 // A value word of the kind, by its code.
-pub fn parse_enum(text: &[u8], held: Token, kind: u8) -> Word
-    ensures { λ r. ⌜ asWord (now (text .entry)) r ≡ parse-enum (λ w. codeOf kind w 0) (aheadOf (now (text .entry)) held) ⌝ }
+pub fn parse_enum(lent: &&[u8], held: Token, next: Token, kind: u8) -> Word
+    ensures { λ r. ⌜ ((a : Ahead ℕ Mark) → Took (now (now (lent .entry))) held next a → asWord (now (now (lent .entry))) r ≡ parse-enum (λ w. codeOf kind w 0) a) ⌝ }
 {
-    let answer = get_name(text, held);
+    let answer = get_name(held, next);
     let Taken::Next(next) = answer else {
         return Word::Refused(taken_refusal(answer));
     };
-    let code = word::codes::code_of(kind, word::word_of(txt(text, held)), 0);
+    let code = word::codes::code_of(kind, word::word_in(lent, held.start, held.stop), 0);
     if code == 0 {
         Word::Refused(complain(6, next))
     } else {
@@ -240,5 +263,24 @@ pub fn taken_refusal(t: Taken) -> Refusal
     match t {
         Taken::Next(next) => complain(0, next),
         Taken::Refused(r) => r,
+    }
+}
+
+// What the others refused for.
+pub fn number_refusal(n: Number) -> Refusal
+    ensures { λ r. ⌜ r ≡ whyNumber n ⌝ }
+{
+    match n {
+        Number::Value(_, next) => complain(0, next),
+        Number::Refused(r) => r,
+    }
+}
+
+pub fn word_refusal(w: Word) -> Refusal
+    ensures { λ r. ⌜ r ≡ whyWord w ⌝ }
+{
+    match w {
+        Word::Is(_, next) => complain(0, next),
+        Word::Refused(r) => r,
     }
 }

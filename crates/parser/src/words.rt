@@ -1,15 +1,12 @@
-// Values of one word or two: the class of a macro and the direction of a pin.
+// Values of one word or two, the class of a macro and the direction of a pin; and the numbers that a value may be.
 ghost use mathlib.Core.Path.{_≡_};
 ghost use mathlib.Core.Bool.{cond};
-ghost use mathlib.Core.List.{[], _∷_};
-ghost use Prim.Native.Nat.{ℕ};
 ghost use lib.Dec.{eqb};
-ghost use Rattle.record.specs.Kinds as Kinds;
 ghost use Rattle.word.specs.Codes.{codeOf, valuesOf};
-ghost use Rattle.grammar.specs.Grammar.{first, firstKey, second, semi};
-ghost use Rattle.grammar.specs.Engine.{Frame, Draft, item, begins, parse-second, parse-enum};
+ghost use Rattle.grammar.specs.Table.{versions, microns};
+ghost use Rattle.grammar.specs.Engine.{member, begins, parse-second, parse-enum};
 ghost use Rattle.grammar.specs.Second.{goesOn, secondKey};
-ghost use Rattle.parser.specs.Code.{aheadOf, asWord, asFirst, asRec, recordAfter};
+ghost use Rattle.parser.specs.Code.{aheadOf, asWord};
 use crate::take;
 use crate::take::Taken;
 use crate::take::Word;
@@ -18,86 +15,9 @@ use record::kind;
 use word::codes;
 use word::names;
 
-// The class of a macro.
-pub fn parse_macro_class(text: &[u8], held: Token) -> Word
-    ensures { λ r. ⌜ ((f : Frame ℕ) (d : Draft ℕ) → d .rec .kind ≡ Kinds.MACRO-CLASS → asRec (now (text .entry)) d r ≡ recordAfter (first ∷ second ∷ semi ∷ []) f d (aheadOf (now (text .entry)) held)) ⌝ }
-{
-    let k = take::next_token(text, held);
-    let Taken::Next(name) = k else {
-        return Word::Refused(take::taken_refusal(k));
-    };
-    let a = first_class(text, name);
-    let Word::Is(w, more) = a else {
-        return a;
-    };
-    let b = parse_second(text, more, kind::MACRO_CLASS, w);
-    let Word::Is(c, end) = b else {
-        return b;
-    };
-    let z = take::expect(text, end, Token::SEMICOLON);
-    let Taken::Next(next) = z else {
-        return Word::Refused(take::taken_refusal(z));
-    };
-    Word::Is(c, next)
-}
-
-// The direction of a pin, whose words are key words.
-pub fn parse_pin_direction(text: &[u8], held: Token) -> Word
-    ensures { λ r. ⌜ ((f : Frame ℕ) (d : Draft ℕ) → d .rec .kind ≡ Kinds.DIRECTION → asRec (now (text .entry)) d r ≡ recordAfter (firstKey ∷ second ∷ semi ∷ []) f d (aheadOf (now (text .entry)) held)) ⌝ }
-{
-    let k = take::next_token(text, held);
-    let Taken::Next(name) = k else {
-        return Word::Refused(take::taken_refusal(k));
-    };
-    let a = first_direction(text, name);
-    let Word::Is(w, more) = a else {
-        return a;
-    };
-    let b = parse_second(text, more, kind::DIRECTION, w);
-    let Word::Is(c, end) = b else {
-        return b;
-    };
-    let z = take::expect(text, end, Token::SEMICOLON);
-    let Taken::Next(next) = z else {
-        return Word::Refused(take::taken_refusal(z));
-    };
-    Word::Is(c, next)
-}
-
-// The first word of a macro's class.
-fn first_class(text: &[u8], held: Token) -> Word
-    ensures { λ r. ⌜ ((f : Frame ℕ) (d : Draft ℕ) → d .rec .kind ≡ Kinds.MACRO-CLASS → asFirst (now (text .entry)) d r ≡ item f first d (aheadOf (now (text .entry)) held)) ⌝ }
-{
-    let answer = take::get_name(text, held);
-    let Taken::Next(next) = answer else {
-        return Word::Refused(take::taken_refusal(answer));
-    };
-    let w = word::word_of(take::txt(text, held));
-    if begins_class(w) {
-        Word::Is(w, next)
-    } else {
-        Word::Refused(take::complain(6, next))
-    }
-}
-
-// The first word of a pin's direction.
-fn first_direction(text: &[u8], held: Token) -> Word
-    ensures { λ r. ⌜ ((f : Frame ℕ) (d : Draft ℕ) → d .rec .kind ≡ Kinds.DIRECTION → asFirst (now (text .entry)) d r ≡ item f firstKey d (aheadOf (now (text .entry)) held)) ⌝ }
-{
-    let answer = take::get_key(text, held);
-    let Word::Is(w, next) = answer else {
-        return answer;
-    };
-    if begins_direction(w) {
-        Word::Is(w, next)
-    } else {
-        Word::Refused(take::complain(6, next))
-    }
-}
-
 // The second word after the first word `w`, and the code of the two.
-fn parse_second(text: &[u8], held: Token, kind: u8, w: u8) -> Word
-    ensures { λ r. ⌜ asWord (now (text .entry)) r ≡ parse-second kind w (aheadOf (now (text .entry)) held) ⌝ }
+pub fn parse_second(lent: &&[u8], held: Token, kind: u8, w: u8) -> Word
+    ensures { λ r. ⌜ asWord (now (now (lent .entry))) r ≡ parse-second kind w (aheadOf (now (now (lent .entry))) held) ⌝ }
 {
     let code = codes::code_of(kind, w, 0);
     let k = held.kind;
@@ -106,9 +26,13 @@ fn parse_second(text: &[u8], held: Token, kind: u8, w: u8) -> Word
     }
     let key = second_key(w);
     if key == 0 {
-        return second_value(text, held, kind, w);
+        return second_value(lent, held, kind, w);
     }
-    let answer = take::expect_key(text, held, key);
+    let a = take::next_token(lent, held);
+    let Taken::Next(first) = a else {
+        return Word::Refused(take::taken_refusal(a));
+    };
+    let answer = take::expect_key(lent, held, first, key);
     let Word::Is(v, next) = answer else {
         return answer;
     };
@@ -116,14 +40,18 @@ fn parse_second(text: &[u8], held: Token, kind: u8, w: u8) -> Word
 }
 
 // The second word as a value word.
-fn second_value(text: &[u8], held: Token, kind: u8, w: u8) -> Word
-    ensures { λ r. ⌜ asWord (now (text .entry)) r ≡ parse-enum (λ v. cond (eqb v 0) 0 (codeOf kind w v)) (aheadOf (now (text .entry)) held) ⌝ }
+fn second_value(lent: &&[u8], held: Token, kind: u8, w: u8) -> Word
+    ensures { λ r. ⌜ asWord (now (now (lent .entry))) r ≡ parse-enum (λ v. cond (eqb v 0) 0 (codeOf kind w v)) (aheadOf (now (now (lent .entry))) held) ⌝ }
 {
-    let answer = take::get_name(text, held);
+    let a = take::next_token(lent, held);
+    let Taken::Next(first) = a else {
+        return Word::Refused(take::taken_refusal(a));
+    };
+    let answer = take::get_name(held, first);
     let Taken::Next(next) = answer else {
         return Word::Refused(take::taken_refusal(answer));
     };
-    let code = code_of_two(kind, w, word::word_of(take::txt(text, held)));
+    let code = code_of_two(kind, w, word::word_in(lent, held.start, held.stop));
     if code == 0 {
         Word::Refused(take::complain(6, next))
     } else {
@@ -154,25 +82,6 @@ fn second_key(w: u8) -> u8
     0
 }
 
-// Whether a class of a macro begins with the word.
-fn begins_class(w: u8) -> bool
-    ensures { λ r. ⌜ r ≡ begins (valuesOf Kinds.MACRO-CLASS) w ⌝ }
-{
-    (names::COVER == w)
-        | (names::RING == w)
-        | (names::BLOCK == w)
-        | (names::PAD == w)
-        | (names::CORE == w)
-        | (names::ENDCAP == w)
-}
-
-// Whether a direction of a pin begins with the word.
-fn begins_direction(w: u8) -> bool
-    ensures { λ r. ⌜ r ≡ begins (valuesOf Kinds.DIRECTION) w ⌝ }
-{
-    (names::INPUT == w) | (names::OUTPUT == w) | (names::INOUT == w) | (names::FEEDTHRU == w)
-}
-
 // Whether some value of the kind has two words, the first of them `w`.
 fn goes_on(kind: u8, w: u8) -> bool
     ensures { λ r. ⌜ r ≡ goesOn (valuesOf kind) w ⌝ }
@@ -188,4 +97,42 @@ fn goes_on(kind: u8, w: u8) -> bool
         return names::OUTPUT == w;
     }
     false
+}
+
+// Whether a value of the kind begins with the word: it is one by itself, or the first of two.
+pub fn begins(kind: u8, w: u8) -> bool
+    ensures { λ r. ⌜ r ≡ begins (valuesOf kind) w ⌝ }
+{
+    (codes::code_of(kind, w, 0) != 0) | goes_on(kind, w)
+}
+
+// Whether the number, in millionths, is one of 5.0 to 5.8.
+pub fn is_version(v: u64) -> bool
+    ensures { λ r. ⌜ r ≡ member versions v ⌝ }
+{
+    (5000000 == v)
+        | (5100000 == v)
+        | (5200000 == v)
+        | (5300000 == v)
+        | (5400000 == v)
+        | (5500000 == v)
+        | (5600000 == v)
+        | (5700000 == v)
+        | (5800000 == v)
+}
+
+// Whether the number, in millionths, is one that a unit may have.
+pub fn is_microns(v: u64) -> bool
+    ensures { λ r. ⌜ r ≡ member microns v ⌝ }
+{
+    (100000000 == v)
+        | (200000000 == v)
+        | (400000000 == v)
+        | (800000000 == v)
+        | (1000000000 == v)
+        | (2000000000 == v)
+        | (4000000000 == v)
+        | (8000000000 == v)
+        | (10000000000 == v)
+        | (20000000000 == v)
 }

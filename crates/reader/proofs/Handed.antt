@@ -1,6 +1,6 @@
 -- What `read` hands out is right: the reading from the first token on is the text's, and records stored one by one lie one after the other.
 use Prim.Native.Nat.{ℕ, _+_, _*_, _≤_, _<_}
-use mathlib.Core.Path.{_≡_, refl, sym, ap, _∙_}
+use mathlib.Core.Path.{_≡_, refl, sym, ap, subst, _∙_}
 use mathlib.Core.List.{List, [], _∷_, _++_, map}
 use native.Mathlib.Omega.{arith}
 use borrow.Author.Tests.{le-leb, lt-leb, lt-ltb, ne-eqb}
@@ -27,7 +27,7 @@ use Rattle.lexer.specs.Screen.{limit, screened}
 use Rattle.lexer.proofs.Cleared.{clear-short}
 use Rattle.lexer.proofs.Whole.{unrolls}
 use Rattle.lexer.proofs.Kinded.{kinded}
-use Rattle.reader.specs.declared.state.State.{State}
+use Rattle.reader.specs.declared.open.State.{State}
 use Rattle.parser.specs.declared.take.Taken.{Taken}
 use Rattle.parser.specs.declared.take.Taken.the-variants as T
 use Rattle.reader.specs.declared.pass.Begun.the-variants as B
@@ -35,7 +35,7 @@ use Rattle.reader.specs.declared.pass.Passed.{Passed}
 use Rattle.reader.specs.declared.pass.Passed.the-variants as P
 use Rattle.grammar.specs.Reading.{tok, ahead, start, readAhead, Reading, records, refusal-of, told, reading}
 use Rattle.parser.specs.Code.{restOf, aheadOf, endOf, heldNext}
-use Rattle.reader.specs.Open.{stateOf}
+use Rattle.reader.specs.Open.{stateOf, Ranked}
 use Rattle.reader.specs.Answered.{room, answered, filled}
 use Rattle.reader.specs.Passed.{readFrom, storedAll, Begins, Further, Passes}
 use Rattle.parser.proofs.Ahead.{end-bytes}
@@ -87,12 +87,12 @@ module _ (s : List ℕ) (l : length s ≤ limit) (st : State) where
   stored-by : (file out : List ℕ) (x : Passed) → Passes s st all file out x → (rs : List Record) → readFrom s st ≡ records rs → out ≡ storedAll 0 rs file
   stored-by file out (P.Over n) p rs e = p .4 ∙ ap (λ q. storedAll 0 q file) (same-records (p .0) rs (sym (p .1) ∙ e))
   stored-by file out (P.On to) p rs e = absurd (never-on file out to p)
-  stored-by file out (P.Refused r) p rs e = absurd (clash rs r (sym e ∙ p))
+  stored-by file out (P.Refused r to) p rs e = absurd (clash rs r (sym e ∙ p .0))
 
   -- the first pass counted n
   module _ (file : List ℕ) (x : Passed) (nowhere out : List ℕ) (p : Passes s st all nowhere out x) where
-    pub by-stop : (f : Refusal) → x ≡ P.Refused f → Handed file (readFrom s st) f file
-    by-stop f h = by-refusal file f (rw h at p)
+    pub by-stop : (f : Refusal) (to : State) → x ≡ P.Refused f to → Handed file (readFrom s st) f file
+    by-stop f to h = let o : Passes s st all nowhere out (P.Refused f to) = rw h at p in by-refusal file f (o .0)
 
     pub by-on : (to : State) → x ≡ P.On to → ⊥
     by-on to h = never-on nowhere out to (rw h at p)
@@ -153,6 +153,7 @@ module _ (s : List ℕ) where
       cleared (sym c ∙ v) ∙ (found (lexFrom s 0 1) refl t (sym e ∙ q) ∙ rw (← h .0, ← h .1 s)),
       clear-short s (sym v ∙ c),
       h .1 s,
+      subst (λ st. Ranked (st .blocks)) (sym (h .1 s)) (omega arith, tt),
     )
 
     pub fails : (f : Refusal) → y ≡ T.Refused f → reading s ≡ refusal-of f

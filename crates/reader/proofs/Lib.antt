@@ -1,7 +1,8 @@
-pub mod Tally
-pub mod Handed
-pub mod Among
-pub mod After
-pub mod Chosen
-pub mod Fits
+pub mod Lacking
+pub mod Stack
+pub mod Moving
+pub mod Ranks
 pub mod Turning
+pub mod Tally
+pub mod Steps
+pub mod Handed

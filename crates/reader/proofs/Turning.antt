@@ -1,33 +1,33 @@
--- A turn of the code is a turn of the definition: by the cases of the step, and since the blocks around a block that has ended are
--- those that were around it.
-use Prim.Native.Nat.{ℕ}
-use mathlib.Core.Path.{_≡_, refl, sym, ap, ap₂, subst, _∙_}
-use mathlib.Core.Bool.{Bool, true, false, cond, false≢true}
-use mathlib.Core.List.{List, [], _∷_, map}
-use lib.Dec.{eqb}
+-- A turn of the code is a turn of the definition: by the cases of the step, and since a block that has ended leaves those around it.
+use Prim.Native.Nat.{ℕ, _≤_, _<_}
+use mathlib.Core.Path.{_≡_, refl, sym, ap, subst, _∙_}
+use mathlib.Core.List.{List, [], _∷_}
+use native.Mathlib.Omega.{arith}
+use lib.ListN.{length}
 use Rattle.lexer.specs.declared.Token.{Token}
 use Rattle.record.specs.declared.Record.{Record}
 use Rattle.refusal.specs.declared.Refusal.{Refusal}
-use Rattle.reader.specs.declared.state.Block.{Block}
-use Rattle.reader.specs.declared.state.Block.the-variants as B
-use Rattle.reader.specs.declared.state.State.{State}
-use Rattle.parser.specs.declared.step.Step.{Step}
-use Rattle.parser.specs.declared.step.Step.the-variants as S
+use Rattle.reader.specs.declared.open.Open.{Open}
+use Rattle.reader.specs.declared.open.State.{State}
+use Rattle.parser.specs.declared.engine.Step.{Step}
+use Rattle.parser.specs.declared.engine.Step.the-variants as S
 use Rattle.grammar.specs.Tokens.{Ahead}
-use Rattle.grammar.specs.Grammar as G
-use Rattle.grammar.specs.Grammar.{stay, enter, named, version}
+use Rattle.grammar.specs.Grammar.{Move, stay, enter, named, version}
 use Rattle.grammar.specs.Table.{body}
 use Rattle.grammar.specs.Engine.{Rec, Frame}
 use Rattle.grammar.specs.Turns as T
-use Rattle.grammar.specs.Turns.{step, applied, leave, become, state, turn}
+use Rattle.grammar.specs.Turns.{step, applied, leave, become, state, shift, turn}
 use Rattle.grammar.specs.Reading.{Mark}
+use Rattle.rows.specs.Packed.{blockOf, moveOf}
 use Rattle.parser.specs.Code.{aheadOf}
-use Rattle.reader.specs.Open.{blockOf, frameOf, aroundLayer, around, outerFrames, framesOf, stateOf, movedTo, firstOf, numberOf, fits}
-use Rattle.parser.specs.Stepped.{Entry, filedStep, asStep, stepIn}
-use Rattle.reader.specs.Stepped.{filedTurn, appliedIn, afterIn, turnIn}
-use Rattle.reader.proofs.After.{around-moved, frames-moved}
-use Rattle.reader.proofs.Among.{the-library}
-use Rattle.reader.proofs.Fits.{Fits, step-fits}
+use Rattle.parser.specs.Kept.{nameIn, frameOf}
+use Rattle.parser.specs.Drafts.{Entry}
+use Rattle.parser.specs.Stepped.{labelled, filedStep, asStep, stepIn}
+use Rattle.reader.specs.Open.{framesIn, numbersOf, aroundIn, blocksOf, stateOf, rank, Ranked}
+use Rattle.reader.specs.Stepped.{filedTurn, appliedIn, turnIn}
+use Rattle.reader.specs.Passed.{Sound}
+use Rattle.reader.proofs.Stack.{frames-length, again}
+use Rattle.reader.proofs.Ranks.{Rises, step-rises, rank-most}
 
 -- A STEP AND THE TURN
 
@@ -46,119 +46,113 @@ applied-filed v f fs o (T.goes b a) = refl
 applied-filed v f fs o T.backs = refl
 applied-filed v f fs o (T.halts n p) = refl
 
-pub frame-block : (s : List ℕ) (o : State) (b : Block) → frameOf s o b .block ≡ blockOf b
-frame-block s o B.Library = refl
-frame-block s o B.Units = refl
-frame-block s o B.Site = refl
-frame-block s o B.Symmetry = refl
-frame-block s o B.Macro = refl
-frame-block s o B.Pin = refl
-frame-block s o B.Port = refl
-frame-block s o B.Obs = refl
-frame-block s o B.Options = refl
-frame-block s o B.Layer = refl
-frame-block s o B.Rect = refl
-frame-block s o B.Polygon = refl
-frame-block s o B.Path = refl
+rises-filed : (n : ℕ) (e : T.Step ℕ Mark (Rec ℕ)) → Rises n e → Rises n (filedStep e)
+rises-filed n (T.gives m r a) h = h
+rises-filed n (T.ends a) h = h
+rises-filed n (T.goes b a) h = h
+rises-filed n T.backs h = h
+rises-filed n (T.halts k p) h = h
 
-module _ (s : List ℕ) (o : State) where
-  -- the turn in the open blocks, where the innermost makes the step e
-  turn-of : (e : T.Step ℕ Mark Entry) → e ≡ stepIn s (o .version) (frameOf s o (o .block)) (o .held) (body (blockOf (o .block)))
-      → turnIn s (o .version) (framesOf s o) (o .held) ≡ appliedIn (o .version) (frameOf s o (o .block)) (outerFrames s o) (turnIn s (o .version) (outerFrames s o) (o .held)) e
-  unfolding turn
-  turn-of e h = let f = frameOf s o (o .block) in let a = aheadOf s (o .held) in let fs = outerFrames s o in
-      applied-filed (o .version) f fs (turn body (o .version) fs a) (step (o .version) f a (body (f .block)))
-      ∙ ap (λ b. appliedIn (o .version) f fs (turnIn s (o .version) fs (o .held)) (filedStep (step (o .version) f a (body b)))) (frame-block s o (o .block))
-      ∙ ap (appliedIn (o .version) f fs (turnIn s (o .version) fs (o .held))) (sym h)
+-- only a named block has the label
+shift-labelled : (m : Move) (k p : ℕ) (l : List ℕ) (u v : ℕ) (f : Frame ℕ) (fs : List (Frame ℕ)) → shift m k p (labelled m l) u v f fs ≡ shift m k p l u v f fs
+shift-labelled stay k p l u v f fs = refl
+shift-labelled (enter b ks) k p l u v f fs = refl
+shift-labelled (named b ks) k p l u v f fs = refl
+shift-labelled version k p l u v f fs = refl
 
-  -- the options of a layer have ended
-  goes-on : (t : Token) → o .block ≡ B.Options → stateOf s (movedTo B.Layer t o) ≡ state (o .version) (become G.Layer (frameOf s o (o .block)) ∷ outerFrames s o)
-  goes-on t e =
-      subst (λ b. stateOf s (movedTo B.Layer t o) ≡ state (o .version) (become G.Layer (frameOf s o b) ∷ map (frameOf s o) (around o b))) (sym e)
-      (ap (λ fs. state (o .version) (T.opened G.Layer (o .layer) [] [] ∷ fs)) (frames-moved s o t B.Layer (aroundLayer (o .«in_port»))))
+leave-some : {R : Type 0} (v : ℕ) (fs : List (Frame ℕ)) (a : Ahead ℕ Mark) → 0 < length fs → leave {R = R} v fs a ≡ T.moved (state v fs) a
+leave-some v [] a h = absurd (let z : ⊥ = omega arith in z)
+leave-some v (f ∷ fs) a h = refl
 
--- A BLOCK THAT HAS ENDED
+leave-none : {R : Type 0} (v : ℕ) (fs : List (Frame ℕ)) (a : Ahead ℕ Mark) → length fs ≡ 0 → leave {R = R} v fs a ≡ T.done
+leave-none v [] a h = refl
+leave-none v (f ∷ fs) a h = absurd (let z : ⊥ = omega (arith, h) in z)
 
-symmetries : (o : State) (site : Bool) → cond site B.Site B.Macro ∷ around o (cond site B.Site B.Macro) ≡ cond site B.Site B.Macro ∷ B.Library ∷ []
-symmetries o true = refl
-symmetries o false = refl
+turn-none : (s : List ℕ) (v : ℕ) (fs : List (Frame ℕ)) (t : Token) → length fs ≡ 0 → turnIn s v fs t ≡ T.done
+unfolding turn
+turn-none s v [] t h = refl
+turn-none s v (f ∷ fs) t h = absurd (let z : ⊥ = omega (arith, h) in z)
 
-layers : (o : State) (port : Bool) → firstOf (aroundLayer port) ∷ around o (firstOf (aroundLayer port)) ≡ aroundLayer port
-layers o true = refl
-layers o false = refl
+-- THE CODE'S STATE
 
--- around the block around a block stand the others
-around-left : (o : State) (b : Block) → eqb (numberOf b) 0 ≡ false → firstOf (around o b) ∷ around o (firstOf (around o b)) ≡ around o b
-around-left o B.Library h = absurd (false≢true (sym h))
-around-left o B.Units h = refl
-around-left o B.Site h = refl
-around-left o B.Symmetry h = symmetries o (o .«in_site»)
-around-left o B.Macro h = refl
-around-left o B.Pin h = refl
-around-left o B.Port h = refl
-around-left o B.Obs h = refl
-around-left o B.Options h = layers o (o .«in_port»)
-around-left o B.Layer h = layers o (o .«in_port»)
-around-left o B.Rect h = refl
-around-left o B.Polygon h = refl
-around-left o B.Path h = refl
+-- the state of the loop, with the blocks around the innermost in an array
+abbrev pub now : Token → Open → List ℕ → State
+now t p o = record { held = t; «open» = p; outer = aroundIn o }
 
-module _ (s : List ℕ) (o : State) (t : Token) where
-  pub left-frames : eqb (numberOf (o .block)) 0 ≡ false → framesOf s (movedTo (firstOf (around o (o .block))) t o) ≡ outerFrames s o
-  left-frames h = let c = firstOf (around o (o .block)) in
-      ap (λ bs. map (frameOf s (movedTo c t o)) (c ∷ bs)) (around-moved s o t c c)
-      ∙ frames-moved s o t c (c ∷ around o c)
-      ∙ ap (map (frameOf s o)) (around-left o (o .block) h)
+-- no block of the loop's stands deeper than it can
+abbrev pub Stands : List ℕ → Open → List ℕ → Type 0
+Stands s p o = Ranked (blocksOf s p o .blocks)
 
-  left-turn : eqb (numberOf (o .block)) 0 ≡ false → T.moved (stateOf s (movedTo (firstOf (around o (o .block))) t o)) (aheadOf s t) ≡ leave {R = Record} (o .version) (outerFrames s o) (aheadOf s t)
-  left-turn h = ap (λ fs. leave (o .version) fs (aheadOf s t)) (left-frames h)
+module _ (s : List ℕ) (t : Token) (p : Open) (o : List ℕ) where
+  shallow : (q : List ℕ) → Stands s p q → p .depth ≤ 5
+  shallow q h = omega (arith, h .0, rank-most (blockOf (p .inner .block)), frames-length s (p .depth) q)
 
-  -- a library is the last
-  library-last : o .block ≡ B.Library → T.done ≡ leave {R = Record} (o .version) (outerFrames s o) (aheadOf s t)
-  library-last b = rw b
+  pub now-as : p .depth ≤ 5 → stateOf s (now t p o) ≡ blocksOf s p o
+  now-as h = ap (λ fs. state (p .version) (frameOf s (p .inner) ∷ fs)) (again s (p .depth) o h)
+
+  pub sound-depth : Sound s (now t p o) → p .depth ≤ 5
+  sound-depth h = shallow (numbersOf (aroundIn o)) h
+
+  pub sound-stands : Sound s (now t p o) → Stands s p o
+  sound-stands h = subst (λ st. Ranked (st .blocks)) (now-as (sound-depth h)) h
+
+  pub stands-depth : Stands s p o → p .depth ≤ 5
+  stands-depth h = shallow o h
+
+  pub stands-sound : Stands s p o → Sound s (now t p o)
+  stands-sound h = subst (λ st. Ranked (st .blocks)) (sym (now-as (stands-depth h))) h
 
 -- A TURN OF THE CODE
 
-module _ (s : List ℕ) (o : State) where
+module _ (s : List ℕ) (t : Token) (p : Open) (o : List ℕ) where
+  abbrev v : ℕ
+  v = p .version
+
+  abbrev pub frame : Frame ℕ
+  frame = frameOf s (p .inner)
+
+  abbrev pub frames : List (Frame ℕ)
+  frames = framesIn s (p .depth) o
+
   -- the step that the innermost block makes
   abbrev pub Makes : Step → Type 0
-  Makes e = asStep s e ≡ stepIn s (o .version) (frameOf s o (o .block)) (o .held) (body (blockOf (o .block)))
+  Makes e = asStep s e ≡ stepIn s v frame t (body (blockOf (p .inner .block)))
 
   -- the turn in the open blocks
   abbrev pub turnOf : T.Turn ℕ Mark Record
-  turnOf = turnIn s (o .version) (framesOf s o) (o .held)
+  turnOf = turnIn s v (frame ∷ frames) t
 
-  pub made-fits : (e : Step) → Makes e → Fits (o .block) (asStep s e)
-  made-fits e h = rw h (step-fits s (o .version) (frameOf s o (o .block)) (o .held) (o .block))
+  pub made-rises : (e : Step) → Makes e → Rises (rank (blockOf (p .inner .block))) (asStep s e)
+  made-rises e h = let b = blockOf (p .inner .block) in
+      rw h (rises-filed (rank b) (step v frame (aheadOf s t) (body b)) (step-rises v frame (aheadOf s t) b))
 
-  pub gives-turn : (r : Record) (t : Token) → Makes (S.Gives t r) → (q : State) → (q .held ≡ t) × ((s : List ℕ) → fits (o .block) (r .kind) ≡ true → stateOf s q ≡ afterIn s o r)
-      → turnOf ≡ T.emit r (stateOf s q) (aheadOf s (q .held))
-  gives-turn r t h q a = turn-of s o (asStep s (S.Gives t r)) h ∙ sym (ap₂ (λ x y. T.emit r x (aheadOf s y)) (a .1 s (made-fits (S.Gives t r) h)) (a .0))
+  -- the turn in the open blocks, where the innermost makes the step e
+  turn-of : (e : T.Step ℕ Mark Entry) → e ≡ stepIn s v frame t (body (blockOf (p .inner .block))) → turnOf ≡ appliedIn v frame frames (turnIn s v frames t) e
+  unfolding turn
+  turn-of e h =
+      applied-filed v frame frames (turn body v frames (aheadOf s t)) (step v frame (aheadOf s t) (body (frame .block)))
+      ∙ ap (appliedIn v frame frames (turnIn s v frames t)) (sym h)
 
-  pub ends-turn : (t : Token) → Makes (S.Ends t) → eqb (numberOf (o .block)) 0 ≡ false → (q : State) → q ≡ movedTo (firstOf (around o (o .block))) t o
-      → turnOf ≡ T.moved (stateOf s q) (aheadOf s (q .held))
-  ends-turn t h b q e = rw e (turn-of s o (asStep s (S.Ends t)) h ∙ sym (left-turn s o t b))
+  pub gives-turn : (u : Token) (r : Record) (m : ℕ) → Makes (S.Gives u r m)
+      → turnOf ≡ T.emit r (shift (moveOf m) (r .kind) (r .at) (nameIn s (r .name) (r .len)) (r .x) v frame frames) (aheadOf s u)
+  gives-turn u r m h = turn-of (asStep s (S.Gives u r m)) h
+      ∙ ap (λ st. T.emit r st (aheadOf s u)) (shift-labelled (moveOf m) (r .kind) (r .at) (nameIn s (r .name) (r .len)) (r .x) v frame frames)
 
-  pub last-turn : (t : Token) → Makes (S.Ends t) → eqb (numberOf (o .block)) 0 ≡ true → turnOf ≡ T.done
-  last-turn t h b = turn-of s o (asStep s (S.Ends t)) h ∙ sym (library-last s o t (the-library (o .block) b))
+  pub ends-turn : (u : Token) → Makes (S.Ends u) → 0 < p .depth → turnOf ≡ T.moved (state v frames) (aheadOf s u)
+  ends-turn u h d = turn-of (asStep s (S.Ends u)) h ∙ leave-some v frames (aheadOf s u) (omega (arith, d, frames-length s (p .depth) o))
 
-  pub goes-turn : (t : Token) → Makes (S.Goes t) → (q : State) → q ≡ movedTo B.Layer t o → turnOf ≡ T.moved (stateOf s q) (aheadOf s (q .held))
-  goes-turn t h q e = rw e (turn-of s o (asStep s (S.Goes t)) h ∙ sym (ap (λ x. T.moved x (aheadOf s t)) (goes-on s o t (made-fits (S.Goes t) h))))
+  pub last-turn : (u : Token) → Makes (S.Ends u) → p .depth ≡ 0 → turnOf ≡ T.done
+  last-turn u h d = turn-of (asStep s (S.Ends u)) h ∙ leave-none v frames (aheadOf s u) (frames-length s (p .depth) o ∙ d)
 
-  -- where a layer has ended, the turn is that of the block around it, which is no layer
-  pub back-layer : Makes S.Back → o .block ≡ B.Layer
-  back-layer h = made-fits S.Back h
+  pub goes-turn : (u : Token) (b : ℕ) → Makes (S.Goes u b) → turnOf ≡ T.moved (state v (become (blockOf b) frame ∷ frames)) (aheadOf s u)
+  goes-turn u b h = turn-of (asStep s (S.Goes u b)) h
 
-  pub back-turn : Makes S.Back → (q : State) → q ≡ movedTo (firstOf (around o (o .block))) (o .held) o → turnOf ≡ turnIn s (q .version) (framesOf s q) (q .held)
-  back-turn h q e = rw e (turn-of s o (asStep s S.Back) h ∙ sym (ap (λ fs. turnIn s (o .version) fs (o .held)) (left-frames s o (o .held) (rw (back-layer h)))))
+  -- where a block has ended, the turn is that of the blocks around it
+  pub back-turn : Makes S.Back → turnOf ≡ turnIn s v frames t
+  back-turn h = turn-of (asStep s S.Back) h
+
+  pub back-last : Makes S.Back → p .depth ≡ 0 → turnOf ≡ T.done
+  back-last h d = back-turn h ∙ turn-none s v frames t (frames-length s (p .depth) o ∙ d)
 
   pub refused-turn : (r : Refusal) → Makes (S.Refused r) → turnOf ≡ T.halted (r .number) (record { place = r .place; line = r .line })
-  refused-turn r h = turn-of s o (asStep s (S.Refused r)) h
-
--- what is around a layer is none
-pub outer-other : (o q : State) (t : Token) → q ≡ movedTo (firstOf (around o (o .block))) t o → o .block ≡ B.Layer → eqb (numberOf (q .block)) 9 ≡ false
-outer-other o q t e b = rw (e, b) (go (o .«in_port»))
-  where
-    go : (port : Bool) → eqb (numberOf (firstOf (aroundLayer port))) 9 ≡ false
-    go true = refl
-    go false = refl
+  refused-turn r h = turn-of (asStep s (S.Refused r)) h

@@ -1,172 +1,97 @@
--- Inner machinery, which nobody has to believe: what the code's state stands for, the open blocks, the innermost first.
--- The image `stateOf` forgets the token held, which contracts name beside it, every field that belongs to no open block, and where a
--- block's name stands (its bytes alone count). A contract that equates it leaves these open.
-use Prim.Native.Nat.{ℕ}
-use mathlib.Core.Bool.{Bool, true, false, cond, _||_}
-use mathlib.Core.List.{List, [], _∷_, map}
-use lib.Dec.{leb, eqb}
-use Rattle.record.specs.Kinds.{VERSION, UNITS, SITE, SITE-CLASS, SYMMETRY, SIZE, MACRO, PIN, PORT, OBS, LAYER, RECT, POLYGON, PATH, POINT}
-use Rattle.lexer.specs.declared.Token.{Token}
-use Rattle.reader.specs.declared.state.Block.{Block}
-use Rattle.reader.specs.declared.state.Block.the-variants as B
-use Rattle.reader.specs.declared.state.State.{State}
-use Rattle.grammar.specs.Grammar as G
-use Rattle.grammar.specs.Engine.{Frame}
+-- Inner machinery, which nobody has to believe: what the code's open blocks stand for, the innermost first.
+-- The image `blocksOf` forgets what the array holds beyond the depth, and where a block's name stands (its bytes alone count). A contract that
+-- equates it leaves these open.
+use Prim.Native.Nat.{ℕ, zero, suc, _+_, _*_, _≤_}
+use mathlib.Core.Path.{_≡_}
+use mathlib.Core.List.{List, [], _∷_}
+use lib.ListN.{length, getD}
+use Rattle.grammar.specs.Grammar.{Block, Library, Units, Site, Symmetry, Macro, Pin, Port, Obs, Options, Layer, Rect, Polygon, Path, Move, stay, enter, named, version}
+use Rattle.grammar.specs.Engine.{Frame as Opened}
 use Rattle.grammar.specs.Turns as T
-use Rattle.grammar.specs.Turns.{opened}
-use Rattle.grammar.specs.Reading.{libraryFrame}
-use Rattle.parser.specs.Kept.{siteLacks, points, nameIn}
+use Rattle.parser.specs.declared.open.Frame.{Frame}
+use Rattle.parser.specs.Kept.{frameOf}
+use Rattle.reader.specs.declared.open.Around.{Around}
+use Rattle.reader.specs.declared.open.Open.{Open}
+use Rattle.reader.specs.declared.open.State.{State}
 
--- the block of the grammar that the code's block is
-abbrev pub blockOf : Block → G.Block
-blockOf B.Library = G.Library
-blockOf B.Units = G.Units
-blockOf B.Site = G.Site
-blockOf B.Symmetry = G.Symmetry
-blockOf B.Macro = G.Macro
-blockOf B.Pin = G.Pin
-blockOf B.Port = G.Port
-blockOf B.Obs = G.Obs
-blockOf B.Options = G.Options
-blockOf B.Layer = G.Layer
-blockOf B.Rect = G.Rect
-blockOf B.Polygon = G.Polygon
-blockOf B.Path = G.Path
-
--- an open block, by what the state keeps of it
-abbrev pub frameOf : List ℕ → State → Block → Frame ℕ
-frameOf s o B.Library = libraryFrame
-frameOf s o B.Units = opened G.Units (o .outer) [] []
-frameOf s o B.Site = opened G.Site (o .outer) (nameIn s (o .title) (o .«title_len»)) (siteLacks (o .classless) (o .sizeless))
-frameOf s o B.Symmetry = opened G.Symmetry (o .part) [] []
-frameOf s o B.Macro = opened G.Macro (o .outer) (nameIn s (o .title) (o .«title_len»)) []
-frameOf s o B.Pin = opened G.Pin (o .pin) (nameIn s (o .«pin_title») (o .«pin_len»)) []
-frameOf s o B.Port = opened G.Port (o .inner) [] []
-frameOf s o B.Obs = opened G.Obs (o .inner) [] []
-frameOf s o B.Options = opened G.Options (o .layer) [] []
-frameOf s o B.Layer = opened G.Layer (o .layer) [] []
-frameOf s o B.Rect = opened G.Rect (o .part) [] (points (o .wants))
-frameOf s o B.Polygon = opened G.Polygon (o .part) [] (points (o .wants))
-frameOf s o B.Path = opened G.Path (o .part) [] (points (o .wants))
-
--- the blocks around a pin or the obstructions, and around a port
-abbrev pub inMacro : List Block
-inMacro = B.Macro ∷ B.Library ∷ []
-
--- the blocks around a layer
-abbrev pub aroundLayer : Bool → List Block
-aroundLayer port = cond port (B.Port ∷ B.Pin ∷ inMacro) (B.Obs ∷ inMacro)
-
--- the blocks around a block, the innermost first
-abbrev pub around : State → Block → List Block
-around o B.Library = []
-around o B.Units = B.Library ∷ []
-around o B.Site = B.Library ∷ []
-around o B.Symmetry = cond (o .«in_site») B.Site B.Macro ∷ B.Library ∷ []
-around o B.Macro = B.Library ∷ []
-around o B.Pin = inMacro
-around o B.Port = B.Pin ∷ inMacro
-around o B.Obs = inMacro
-around o B.Options = aroundLayer (o .«in_port»)
-around o B.Layer = aroundLayer (o .«in_port»)
-around o B.Rect = B.Layer ∷ aroundLayer (o .«in_port»)
-around o B.Polygon = B.Layer ∷ aroundLayer (o .«in_port»)
-around o B.Path = B.Layer ∷ aroundLayer (o .«in_port»)
-
-abbrev pub outerFrames : List ℕ → State → List (Frame ℕ)
-outerFrames s o = map (frameOf s o) (around o (o .block))
-
-abbrev pub framesOf : List ℕ → State → List (Frame ℕ)
-framesOf s o = frameOf s o (o .block) ∷ outerFrames s o
-
-abbrev pub stateOf : List ℕ → State → T.State ℕ
-stateOf s o = T.state (o .version) (framesOf s o)
-
--- the same but for the innermost block and the token held
-abbrev pub movedTo : Block → Token → State → State
-movedTo b t o =
+-- the five numbers of a block in the array, and the block
+abbrev pub numbersIn : ℕ → List ℕ → Frame
+numbersIn d o =
     record {
-      held = t;
-      version = o .version;
-      block = b;
-      outer = o .outer;
-      title = o .title;
-      «title_len» = o .«title_len»;
-      classless = o .classless;
-      sizeless = o .sizeless;
-      pin = o .pin;
-      «pin_title» = o .«pin_title»;
-      «pin_len» = o .«pin_len»;
-      inner = o .inner;
-      «in_port» = o .«in_port»;
-      layer = o .layer;
-      part = o .part;
-      «in_site» = o .«in_site»;
-      wants = o .wants;
+      block = getD o (5 * d) 0;
+      at = getD o (5 * d + 1) 0;
+      title = getD o (5 * d + 2) 0;
+      len = getD o (5 * d + 3) 0;
+      lacks = getD o (5 * d + 4) 0;
     }
 
--- the first of the blocks around, which for the library is the library
-abbrev pub firstOf : List Block → Block
-firstOf [] = B.Library
-firstOf (b ∷ bs) = b
+-- a block as its numbers, before others
+abbrev pub numbered : Frame → List ℕ → List ℕ
+numbered f ns = f .block ∷ f .at ∷ f .title ∷ f .len ∷ f .lacks ∷ ns
 
--- WHERE RECORDS STAND
+abbrev pub frameIn : List ℕ → ℕ → List ℕ → Opened ℕ
+frameIn s d o = frameOf s (numbersIn d o)
 
-abbrev pub numberOf : Block → ℕ
-numberOf B.Library = 0
-numberOf B.Units = 1
-numberOf B.Site = 2
-numberOf B.Symmetry = 3
-numberOf B.Macro = 4
-numberOf B.Pin = 5
-numberOf B.Port = 6
-numberOf B.Obs = 7
-numberOf B.Options = 8
-numberOf B.Layer = 9
-numberOf B.Rect = 10
-numberOf B.Polygon = 11
-numberOf B.Path = 12
+-- so many of them, the last first
+unfoldable pub framesIn : List ℕ → ℕ → List ℕ → List (Opened ℕ)
+framesIn s zero o = []
+framesIn s (suc d) o = frameIn s d o ∷ framesIn s d o
 
--- a port, obstructions, and what stands in them
-unfoldable pub within : Block → Bool
-within b = leb 6 (numberOf b)
+abbrev pub blocksOf : List ℕ → Open → List ℕ → T.State ℕ
+blocksOf s q o = T.state (q .version) (frameOf s (q .inner) ∷ framesIn s (q .depth) o)
 
-abbrev pub oneOf : Block → List Block → Bool
-oneOf b [] = false
-oneOf b (c ∷ cs) = eqb (numberOf b) (numberOf c) || oneOf b cs
+-- five blocks as an array, and those of an array
+abbrev pub numbersOf : Around → List ℕ
+numbersOf a = numbered (a .first) (numbered (a .second) (numbered (a .third) (numbered (a .fourth) (numbered (a .fifth) []))))
 
--- the blocks that have records of a kind
-pub record Home : Type 0 where
-  pub kind : ℕ
-  pub blocks : List Block
+abbrev pub aroundIn : List ℕ → Around
+aroundIn o = record { first = numbersIn 0 o; second = numbersIn 1 o; third = numbersIn 2 o; fourth = numbersIn 3 o; fifth = numbersIn 4 o }
 
-abbrev home : ℕ → List Block → Home
-home k bs = record { kind = k; blocks = bs }
+abbrev pub stateOf : List ℕ → State → T.State ℕ
+stateOf s st = blocksOf s (st .open) (numbersOf (st .outer))
 
--- the kinds of record that change what is open or lacking
-unfoldable pub homes : List Home
-homes =
-    home VERSION (B.Library ∷ [])
-    ∷ home UNITS (B.Library ∷ [])
-    ∷ home SITE (B.Library ∷ [])
-    ∷ home MACRO (B.Library ∷ [])
-    ∷ home SITE-CLASS (B.Site ∷ [])
-    ∷ home SIZE (B.Site ∷ B.Macro ∷ [])
-    ∷ home SYMMETRY (B.Site ∷ B.Macro ∷ [])
-    ∷ home PIN (B.Macro ∷ [])
-    ∷ home PORT (B.Pin ∷ [])
-    ∷ home OBS (B.Macro ∷ [])
-    ∷ home LAYER (B.Port ∷ B.Obs ∷ [])
-    ∷ home RECT (B.Layer ∷ [])
-    ∷ home POLYGON (B.Layer ∷ [])
-    ∷ home PATH (B.Layer ∷ [])
-    ∷ home POINT (B.Rect ∷ B.Polygon ∷ B.Path ∷ [])
-    ∷ []
+-- WHAT A RECORD DOES
 
-unfoldable pub fitsIn : List Home → Block → ℕ → Bool
-fitsIn [] b k = true
-fitsIn (h ∷ hs) b k = cond (eqb k (h .kind)) (oneOf b (h .blocks)) (fitsIn hs b k)
+-- it opens a block
+abbrev pub Pushes : Move → Type 0
+Pushes stay = ⊥
+Pushes (enter b ks) = Unit {0}
+Pushes (named b ks) = Unit {0}
+Pushes version = ⊥
 
--- may the block have a record of the kind?
-abbrev pub fits : Block → ℕ → Bool
-fits b k = fitsIn homes b k
+-- the block that it opens is not the library
+abbrev pub Inside : Move → Type 0
+Inside stay = Unit {0}
+Inside (enter b ks) = b ≡ Library → ⊥
+Inside (named b ks) = b ≡ Library → ⊥
+Inside version = Unit {0}
+
+-- the block that it opens, where it starts at p and has the name `label`
+abbrev pub Opens : Move → ℕ → List ℕ → Opened ℕ → Type 0
+Opens stay p label f = Unit {0}
+Opens (enter b ks) p label f = f ≡ T.opened b p [] ks
+Opens (named b ks) p label f = f ≡ T.opened b p label ks
+Opens version p label f = Unit {0}
+
+-- HOW DEEP BLOCKS STAND
+
+-- how many blocks can be around a block
+abbrev pub rank : Block → ℕ
+rank Library = 0
+rank Units = 1
+rank Site = 1
+rank Symmetry = 2
+rank Macro = 1
+rank Pin = 2
+rank Port = 3
+rank Obs = 2
+rank Options = 4
+rank Layer = 4
+rank Rect = 5
+rank Polygon = 5
+rank Path = 5
+
+-- no block has more around it than it can have
+abbrev pub Ranked : List (Opened ℕ) → Type 0
+Ranked [] = Unit {0}
+Ranked (f ∷ fs) = (length fs ≤ rank (f .block)) × Ranked fs

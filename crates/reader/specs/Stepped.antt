@@ -1,5 +1,4 @@
--- Inner machinery, which nobody has to believe: what a step does to the open blocks of the code's state. Like `stateOf`, it leaves open what
--- no open block has.
+-- Inner machinery, which nobody has to believe: what a step does to the open blocks, with records as the file has them.
 use Prim.Native.Nat.{ℕ}
 use mathlib.Core.List.{List, _∷_}
 use Rattle.lexer.specs.declared.Token.{Token}
@@ -9,11 +8,8 @@ use Rattle.grammar.specs.Engine.{Rec, Frame}
 use Rattle.grammar.specs.Turns as T
 use Rattle.grammar.specs.Turns.{shift, leave, become, state}
 use Rattle.grammar.specs.Reading.{Mark, filed}
-use Rattle.parser.specs.Kept.{nameIn}
 use Rattle.parser.specs.Code.{aheadOf}
-use Rattle.parser.specs.Stepped.{Entry, labelled, moveOf}
-use Rattle.reader.specs.declared.state.State.{State}
-use Rattle.reader.specs.Open.{frameOf, outerFrames}
+use Rattle.parser.specs.Drafts.{Entry}
 
 abbrev pub filedTurn : T.Turn ℕ Mark (Rec ℕ) → T.Turn ℕ Mark Record
 filedTurn (T.emit r s a) = T.emit (filed r) s a
@@ -28,12 +24,6 @@ appliedIn v f fs outer (T.ends a) = leave v fs a
 appliedIn v f fs outer (T.goes b a) = T.moved (state v (become b f ∷ fs)) a
 appliedIn v f fs outer T.backs = outer
 appliedIn v f fs outer (T.halts n p) = T.halted n p
-
--- the state after a record r in the innermost block
-abbrev pub afterIn : List ℕ → State → Record → T.State ℕ
-afterIn s o r =
-    let m = moveOf (r .kind) in
-    shift m (r .kind) (r .at) (labelled m (nameIn s (r .name) (r .len))) (r .x) (o .version) (frameOf s o (o .block)) (outerFrames s o)
 
 -- the turn in the blocks fs, of the version v, with the token t held
 abbrev pub turnIn : List ℕ → ℕ → List (Frame ℕ) → Token → T.Turn ℕ Mark Record

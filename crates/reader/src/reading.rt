@@ -5,12 +5,12 @@ ghost use lib.ListN.{length};
 ghost use Rattle.lexer.specs.Screen.{limit};
 ghost use Rattle.grammar.specs.Reading.{reading};
 ghost use Rattle.reader.specs.Answered.{room, answered, filled};
-ghost use Rattle.reader.specs.Passed.{readFrom};
+ghost use Rattle.reader.specs.Passed.{Sound, readFrom};
+use crate::open::State;
 use crate::pass::Begun;
 use crate::pass::Passed;
 use crate::pass::begin;
 use crate::pass::pass;
-use crate::state::State;
 use record::Record;
 use refusal::Refusal;
 
@@ -31,14 +31,14 @@ pub fn read(text: &[u8], records: &mut [u8]) -> Refusal
 
 // The same from the state before the first turn on.
 fn read_from(text: &[u8], start: State, records: &mut [u8]) -> Refusal
-    requires { ⌜ length (now text) ≤ limit ⌝ }
+    requires { ⌜ (length (now text) ≤ limit) × Sound (now text) start ⌝ }
     ensures { λ r. ⌜ r ≡ answered (room (now (records .entry))) (readFrom (now (text .entry)) start) ⌝ }
     ensures { λ r. ⌜ now (records .exit) ≡ filled (now (records .entry)) (readFrom (now (text .entry)) start) ⌝ }
 {
     // The first pass has no room for a record, and only counts.
     let mut nowhere = [0u8; 0];
     match pass(text, start, &mut nowhere, ALL) {
-        Passed::Refused(refusal) => refusal,
+        Passed::Refused(refusal, _) => refusal,
         Passed::On(_) => Refusal::record_room(ALL),
         Passed::Over(n) => {
             if records.len() / Record::SIZE < n {

@@ -6,17 +6,17 @@ use Rattle.refusal.specs.declared.Refusal.{Refusal}
 use Rattle.refusal.specs.Table.{refused as refusal}
 use Rattle.lexer.specs.declared.Token.{Token}
 use Rattle.grammar.specs.Tokens.{Ahead, Answer, ok, refused}
-use Rattle.grammar.specs.Engine.{Rec, Draft}
+use Rattle.grammar.specs.Engine.{Rec}
 use Rattle.grammar.specs.Turns as T
 use Rattle.grammar.specs.Reading.{Mark}
 use Rattle.parser.specs.declared.take.Taken.{Taken}
 use Rattle.parser.specs.declared.take.Number.{Number}
 use Rattle.parser.specs.declared.take.Word.{Word}
-use Rattle.parser.specs.declared.statement.Point.{Point}
-use Rattle.parser.specs.declared.shared.Peeked.{Peeked}
-use Rattle.parser.specs.declared.step.Step.{Step}
-use Rattle.parser.specs.Code.{asTaken, asNumber, asWord, asX, asXY, asCode, asFirst, asRec}
-use Rattle.parser.specs.Stepped.{Entry, asNamed, asPeeked, asStep}
+use Rattle.parser.specs.declared.peek.Peeked.{Peeked}
+use Rattle.parser.specs.declared.engine.Step.{Step}
+use Rattle.parser.specs.Code.{asTaken, asNumber, asWord, asPeeked}
+use Rattle.parser.specs.Drafts.{Entry}
+use Rattle.parser.specs.Stepped.{asStep}
 
 -- what has a way back is one to one
 one : {A B : Type 0} (f : A → B) (g : B → A) → ((x : A) → g (f x) ≡ x) → (x y : A) → f x ≡ f y → x ≡ y
@@ -42,16 +42,21 @@ module _ {B : Type 0} where
   toWord f (ok b a) = Word.Is (f b) (heldBy a)
   toWord f (refused n m) = Word.Refused (why n m)
 
-abbrev toPoint : Answer ℕ Mark (Draft ℕ) → Point
-toPoint (ok d a) = Point.At (d .rec .x) (d .rec .y) (heldBy a)
-toPoint (refused n m) = Point.Refused (why n m)
+-- but for what the record does to the open blocks, which a number says in more ways than one
+abbrev toStep : ℕ → T.Step ℕ Mark Entry → Step
+toStep n (T.gives m e a) = Step.Gives (heldBy a) (e .rec) n
+toStep n (T.ends a) = Step.Ends (heldBy a)
+toStep n (T.goes b a) = Step.Goes (heldBy a) n
+toStep n T.backs = Step.Back
+toStep n (T.halts k m) = Step.Refused (why k m)
 
-abbrev toStep : T.Step ℕ Mark Entry → Step
-toStep (T.gives m e a) = Step.Gives (heldBy a) (e .rec)
-toStep (T.ends a) = Step.Ends (heldBy a)
-toStep (T.goes b a) = Step.Goes (heldBy a)
-toStep T.backs = Step.Back
-toStep (T.halts n m) = Step.Refused (why n m)
+-- the step with that number in the place of its own
+abbrev told : ℕ → Step → Step
+told n (Step.Gives t r m) = Step.Gives t r n
+told n (Step.Ends t) = Step.Ends t
+told n (Step.Goes t b) = Step.Goes t n
+told n Step.Back = Step.Back
+told n (Step.Refused r) = Step.Refused r
 
 module _ (s : List ℕ) where
   pub as-taken : (h : Token) (x y : Taken) → asTaken s h x ≡ asTaken s h y → x ≡ y
@@ -63,33 +68,15 @@ module _ (s : List ℕ) where
   pub as-word : (x y : Word) → asWord s x ≡ asWord s y → x ≡ y
   as-word = one (asWord s) (toWord (λ k. k)) (elim [ Word.Is k t ↦ refl | Word.Refused r ↦ refl ])
 
-  pub as-step : (x y : Step) → asStep s x ≡ asStep s y → x ≡ y
-  as-step = one (asStep s) toStep (elim [
-    | Step.Gives t r ↦ refl
-    | Step.Ends t ↦ refl
-    | Step.Goes t ↦ refl
-    | Step.Back ↦ refl
-    | Step.Refused r ↦ refl
-  ])
-
-  module _ (d : Draft ℕ) where
-    pub as-x : (x y : Number) → asX s d x ≡ asX s d y → x ≡ y
-    as-x = one (asX s d) (toNumber (λ e. e .rec .x)) (elim [ Number.Value v t ↦ refl | Number.Refused r ↦ refl ])
-
-    pub as-xy : (x y : Point) → asXY s d x ≡ asXY s d y → x ≡ y
-    as-xy = one (asXY s d) toPoint (elim [ Point.At v w t ↦ refl | Point.Refused r ↦ refl ])
-
-    pub as-code : (x y : Word) → asCode s d x ≡ asCode s d y → x ≡ y
-    as-code = one (asCode s d) (toWord (λ e. e .rec .code)) (elim [ Word.Is k t ↦ refl | Word.Refused r ↦ refl ])
-
-    pub as-first : (x y : Word) → asFirst s d x ≡ asFirst s d y → x ≡ y
-    as-first = one (asFirst s d) (toWord (λ e. e .first)) (elim [ Word.Is k t ↦ refl | Word.Refused r ↦ refl ])
-
-    pub as-rec : (x y : Word) → asRec s d x ≡ asRec s d y → x ≡ y
-    as-rec = one (asRec s d) (toWord (λ e. e .code)) (elim [ Word.Is k t ↦ refl | Word.Refused r ↦ refl ])
-
-    pub as-named : (t : Token) (x y : Taken) → asNamed s d t x ≡ asNamed s d t y → x ≡ y
-    as-named t = one (asNamed s d t) toTaken (elim [ Taken.Next u ↦ refl | Taken.Refused r ↦ refl ])
+  pub as-step : (n : ℕ) (x y : Step) → asStep s x ≡ asStep s y → told n x ≡ told n y
+  as-step n x y e = sym (back x) ∙ (ap (toStep n) e ∙ back y)
+    where
+      back : (z : Step) → toStep n (asStep s z) ≡ told n z
+      back (Step.Gives t r m) = refl
+      back (Step.Ends t) = refl
+      back (Step.Goes t b) = refl
+      back Step.Back = refl
+      back (Step.Refused r) = refl
 
 -- what was looked at stands in what follows from it, for a continuation that keeps it
 abbrev keeps : ℕ → T.Step ℕ Mark (Rec ℕ)

@@ -1,7 +1,7 @@
 -- What writing answers: the checker's refusal, or the count of the text's bytes, which a first writing without room has counted.
 use Prim.Native.Nat.{ℕ, _-_, _^_, _≤_, _<_}
 use native.Mathlib.Omega.{arith}
-use mathlib.Core.Path.{_≡_, refl, sym, ap, _∙_}
+use mathlib.Core.Path.{_≡_, refl, sym, ap, subst, _∙_}
 use mathlib.Core.Bool.{true, false}
 use mathlib.Core.List.{List, [], map, append-nil}
 use lib.ListN.{length}
@@ -10,10 +10,10 @@ use Rattle.refusal.specs.declared.Refusal.{Refusal}
 use Rattle.refusal.specs.Table.{refused, done, textRoom}
 use Rattle.record.specs.declared.Record.{Record}
 use Rattle.grammar.specs.Reading.{Reading, start, records, refusal-of, reading}
-use Rattle.reader.specs.declared.state.State.{State}
+use Rattle.reader.specs.declared.open.State.{State}
 use Rattle.reader.specs.declared.pass.Begun.{Begun}
 use Rattle.reader.specs.declared.pass.Begun.the-variants as B
-use Rattle.reader.specs.Open.{stateOf}
+use Rattle.reader.specs.Open.{numbersOf, blocksOf, stateOf, Ranked}
 use Rattle.reader.specs.Passed.{readFrom, Begins}
 use Rattle.verdict.specs.Verdict.{checked}
 use Rattle.verdict.proofs.Read.{refusal-low}
@@ -26,9 +26,9 @@ use Rattle.render.specs.Written.{canonical, accepted, written, filled}
 use Rattle.writer.specs.Told.{Answers, Tells, Reads}
 use Rattle.render.proofs.Short.{reading-short}
 use Rattle.render.proofs.Theorems.{render-bare}
-use Rattle.writer.specs.Put.{greatest, Put}
-use Rattle.writer.specs.Penned.{admitsAll, Ready}
-use Rattle.writer.proofs.Laws.{put-whole}
+use Rattle.lines.specs.Put.{greatest, Put}
+use Rattle.lines.proofs.Laws.{put-whole}
+use Rattle.writer.specs.Penned.{admitsAll, framesOf, Stands, Ready}
 use Rattle.writer.proofs.Writing.{fits-first}
 
 module _ (s file : List ℕ) (c : Refusal) (e : c ≡ checked (reading s) file) where
@@ -81,16 +81,27 @@ module _ (s : List ℕ) (st : State) (begun : Begins s (B.At st)) (rs : List Rec
   ready = (
     rs,
     record {
+      sound = begun .3;
       gives = gives;
-      fit = reads-of s st (begun .0) rs gives .fit;
+      fit = reads-of s st (begun .0) (begun .3) rs gives .fit;
       fits = ap (λ t. fitFrom t (map (bare s) rs)) (begun .2) ∙ render-bare s rs all .1;
     },
   )
 
-  -- the records may come from the state on
-  pub comes : admitsAll (stateOf s st) (map (bare s) rs) ≡ true
+  admitted : admitsAll (stateOf s st) (map (bare s) rs) ≡ true
   unfolding ready
-  comes = fits-first (stateOf s st) (map (bare s) rs) [] (rw (append-nil (map (bare s) rs)) (ready .1 .fits)) .0
+  admitted = fits-first (stateOf s st) (map (bare s) rs) [] (rw (append-nil (map (bare s) rs)) (ready .1 .fits)) .0
+
+  -- the records may come from the state's blocks on, which stand in an array, and their lines are those from the state on
+  module _ (outer : List ℕ) (e : outer ≡ numbersOf (st .outer)) where
+    pub stands : Stands s (st .«open») outer
+    stands = (ap length e, subst (λ o. Ranked (framesOf s (st .«open») o)) (sym e) (begun .3))
+
+    pub comes : admitsAll (blocksOf s (st .«open») outer) (map (bare s) rs) ≡ true
+    comes = ap (λ o. admitsAll (blocksOf s (st .«open») o) (map (bare s) rs)) e ∙ admitted
+
+    pub lines-from : {o o' : List ℕ} {n : ℕ} → Put o 0 (text (lines (blocksOf s (st .«open») outer) (map (bare s) rs))) n o' → Put o 0 lined n o'
+    lines-from {o} {o'} {n} p = subst (λ q. Put o 0 (text (lines (blocksOf s (st .«open») q) (map (bare s) rs))) n o') e p
 
   short : length lined ≤ 2 ^ 64 - 1
   short = rw from-start (reading-short s rs all)

@@ -1,109 +1,139 @@
 -- Blocks end one after the other: the blocks that are open after one has ended are those that were around it.
 use Prim.Native.Nat.{ℕ, _≤_, _<_}
 use native.Mathlib.Omega.{arith}
-use mathlib.Core.Path.{_≡_, refl, sym, ap, _∙_}
-use mathlib.Core.Bool.{Bool, true, false, _&&_, false≢true}
-use mathlib.Core.List.{List, [], _++_, append-assoc, append-nil}
-use lib.Dec.{eqb}
+use mathlib.Core.Path.{_≡_, refl, sym, ap, subst, _∙_}
+use mathlib.Core.Bool.{true, false, _&&_, false≢true}
+use mathlib.Core.List.{List, [], _∷_, _++_, append-assoc, append-nil}
 use lib.ListN.{length}
 use Rattle.word.proofs.Words.{both}
-use Rattle.lexer.specs.declared.Token.{Token}
-use Rattle.grammar.specs.Reading.{libraryFrame}
-use Rattle.reader.specs.declared.state.State.{State}
-use Rattle.reader.specs.Open.{frameOf, around, outerFrames, framesOf, movedTo, firstOf, numberOf}
-use Rattle.reader.proofs.Among.{the-library}
-use Rattle.reader.proofs.Turning.{left-frames}
+use Rattle.grammar.specs.Engine.{Frame}
+use Rattle.grammar.specs.Turns as T
+use Rattle.rows.specs.Packed.{blockOf}
+use Rattle.parser.specs.Kept.{frameOf}
+use Rattle.reader.specs.declared.open.Open.{Open}
+use Rattle.reader.specs.Open.{framesIn, blocksOf, Ranked}
+use Rattle.reader.proofs.Stack.{frames-length}
+use Rattle.reader.proofs.Ranks.{rank-most}
 use Rattle.render.specs.Pieces.{Piece, text}
 use Rattle.render.specs.Plain.{Plain}
 use Rattle.render.specs.Lines.{owns, closing, endAll, pieces, after}
 use Rattle.render.specs.Fit.{mayEnd, comes, admits}
+use Rattle.lines.specs.Put.{greatest, Put}
+use Rattle.lines.proofs.Laws.{put-none, put-as}
+use Rattle.lines.proofs.Pieced.{pieces-then}
 use Rattle.writer.specs.declared.pen.Pen.{Pen}
-use Rattle.writer.specs.Put.{greatest, Put}
-use Rattle.writer.specs.Stated.{closed}
-use Rattle.writer.specs.Penned.{Ended}
-use Rattle.writer.proofs.Laws.{put-none, put-as}
-use Rattle.writer.proofs.Pieced.{pieces-then}
-
--- the state as the innermost block ends
-abbrev pub Left : State → State → Token → Type 0
-Left o q t = q ≡ movedTo (firstOf (around o (o .block))) t o
-
-module _ (s : List ℕ) (o : State) (q : State) (t : Token) (l : Left o q t) (inner : eqb (numberOf (o .block)) 0 ≡ false) where
-  abbrev around-it : framesOf s q ≡ outerFrames s o
-  around-it = rw l (left-frames s o t inner)
-
-  pub fewer : length (outerFrames s q) < length (outerFrames s o)
-  fewer = omega (arith, ap length around-it)
+use Rattle.writer.specs.Penned.{framesOf, Ended}
 
 pub nothing-put : {out : List ℕ} {at : ℕ} → at ≤ greatest → Put out at (text []) at out
 unfolding text
 nothing-put h = put-none h
 
+-- no more blocks are around another than the array has room for
+pub shallow : (s : List ℕ) (o : Open) (outer : List ℕ) → Ranked (framesOf s o outer) → o .depth ≤ 5
+shallow s o outer h = omega (arith, h .0, rank-most (blockOf (o .inner .block)), frames-length s (o .depth) outer)
+
+-- the innermost block as it ends
+abbrev pub closed : List ℕ → Open → List ℕ → List ℕ
+closed s o outer = text (closing (frameOf s (o .inner)) (framesIn s (o .depth) outer))
+
+-- the open blocks then
+abbrev pub Left : List ℕ → Open → List ℕ → Open → Type 0
+Left s o outer q = blocksOf s q outer ≡ T.state (o .version) (framesIn s (o .depth) outer)
+
+module _ (s : List ℕ) (o : Open) (outer : List ℕ) (q : Open) (l : Left s o outer q) where
+  around-it : framesOf s q outer ≡ framesIn s (o .depth) outer
+  around-it = ap (λ t. t .blocks) l
+
+  pub fewer : q .depth < o .depth
+  fewer = omega (arith, ap length around-it, frames-length s (q .depth) outer, frames-length s (o .depth) outer)
+
+  left-ranked : Ranked (framesOf s o outer) → Ranked (framesOf s q outer)
+  left-ranked h = subst Ranked (sym around-it) (h .1)
+
 -- UP TO THE OWNER OF A RECORD
 
-module _ (s : List ℕ) (r : Plain) where
-  pub ended-none : (p : Pen) (out : List ℕ) → p .at ≤ greatest → admits (p .st .version) (framesOf s (p .st)) r ≡ true → Ended s (p .st) r out (p .at) p out
-  ended-none p out h a = record { ends = []; put = nothing-put h; version = refl; rest = refl; state = refl; admitted = a }
+module _ (s : List ℕ) (outer : List ℕ) (r : Plain) where
+  pub ended-none : (p : Pen) (out : List ℕ) → p .at ≤ greatest → Ranked (framesOf s (p .«open») outer)
+      → admits (p .«open» .version) (framesOf s (p .«open») outer) r ≡ true → Ended s (p .«open») outer r out (p .at) p out
+  ended-none p out h k a = record { ends = []; put = nothing-put h; version = refl; rest = refl; state = refl; admitted = a; ranked = k }
 
-  -- a block that does not have the record is not the last
-  pub not-last : (v : ℕ) (o : State) → admits v (framesOf s o) r ≡ true → owns (frameOf s o (o .block)) r ≡ false → eqb (numberOf (o .block)) 0 ≡ false
+  some-around : (v : ℕ) (fs : List (Frame ℕ)) → admits v fs r ≡ true → 0 < length fs
   unfolding admits
-  not-last v o a h = go (eqb (numberOf (o .block)) 0) refl
-    where
-      go : (b : Bool) → eqb (numberOf (o .block)) 0 ≡ b → b ≡ false
-      go true e = absurd (false≢true (both (mayEnd libraryFrame 0) false (rw (h, the-library (o .block) e) at a) .1))
-      go false e = refl
+  some-around v [] h = absurd (false≢true h)
+  some-around v (f ∷ fs) h = omega arith
 
-  module _ (st : State) (out : List ℕ) (at : ℕ) (p : Pen) (exit : List ℕ) (e : Ended s st r out at p exit)
-      (foreign : owns (frameOf s (p .st) (p .st .block)) r ≡ false) where
-    pub ended-inner : eqb (numberOf (p .st .block)) 0 ≡ false
-    ended-inner = not-last (st .version) (p .st) (e .admitted) foreign
+  module _ (o : Open) (out : List ℕ) (at : ℕ) (p : Pen) (exit : List ℕ) (e : Ended s o outer r out at p exit)
+      (foreign : owns (frameOf s (p .«open» .inner)) r ≡ false) where
+    abbrev f : Frame ℕ
+    f = frameOf s (p .«open» .inner)
 
-    pub ended-more : (to : ℕ) (laid : List ℕ) → Put exit (p .at) (closed s (p .st)) to laid → (q : State) (t : Token) → Left (p .st) q t
-        → Ended s st r out at (record { st = q; at = to }) laid
-    unfolding pieces after admits
-    ended-more to laid w q t l =
-        let f = frameOf s (p .st) (p .st .block) in
-        let fs = outerFrames s (p .st) in
-        let g : framesOf s q ≡ fs = around-it s (p .st) q t l ended-inner in
-        let a : (mayEnd f (comes fs r) && admits (st .version) fs r) ≡ true = rw foreign at (e .admitted) in
+    abbrev fs : List (Frame ℕ)
+    fs = framesIn s (p .«open» .depth) outer
+
+    may-come : admits (o .version) fs r ≡ true
+    unfolding admits
+    may-come =
+        let a : (mayEnd f (comes fs r) && admits (o .version) fs r) ≡ true = rw foreign at (e .admitted) in
+        both (mayEnd f (comes fs r)) (admits (o .version) fs r) a .1
+
+    -- a block that does not have the record is not the last
+    pub ended-inner : (0 < p .«open» .depth) × (p .«open» .depth < 6)
+    ended-inner = (
+      omega (arith, some-around (o .version) fs may-come, frames-length s (p .«open» .depth) outer),
+      omega (arith, shallow s (p .«open») outer (e .ranked)),
+    )
+
+    pub ended-more : (to : ℕ) (laid : List ℕ) → Put exit (p .at) (closed s (p .«open») outer) to laid → (q : Open) → Left s (p .«open») outer q
+        → Ended s o outer r out at (record { «open» = q; at = to }) laid
+    unfolding pieces after
+    ended-more to laid w q l =
+        let g : framesOf s q outer ≡ fs = around-it s (p .«open») outer q l in
         record {
           ends = e .ends ++ closing f fs;
           put = pieces-then (e .ends) (closing f fs) (e .put) w;
-          version = rw l (e .version);
+          version = ap (λ t. t .version) l ∙ e .version;
           rest = e .rest ∙ rw foreign (sym (append-assoc (e .ends) (closing f fs) (pieces fs r))) ∙ ap (λ gs. (e .ends ++ closing f fs) ++ pieces gs r) (sym g);
-          state = e .state ∙ rw foreign (ap (λ gs. after (st .version) gs r) (sym g));
-          admitted = ap (λ gs. admits (st .version) gs r) g ∙ both (mayEnd f (comes fs r)) (admits (st .version) fs r) a .1;
+          state = e .state ∙ rw foreign (ap (λ gs. after (o .version) gs r) (sym g));
+          admitted = ap (λ gs. admits (o .version) gs r) g ∙ may-come;
+          ranked = left-ranked s (p .«open») outer q l (e .ranked);
         }
 
 -- ALL BLOCKS
 
-pub record Closed (s : List ℕ) (st : State) (out : List ℕ) (at : ℕ) (p : Pen) (exit : List ℕ) : Type 0 where
+pub record Closed (s : List ℕ) (o : Open) (outer : List ℕ) (out : List ℕ) (at : ℕ) (p : Pen) (exit : List ℕ) : Type 0 where
   pub ends : List Piece
   pub put : Put out at (text ends) (p .at) exit
-  pub rest : endAll (framesOf s st) ≡ ends ++ endAll (framesOf s (p .st))
+  pub rest : endAll (framesOf s o outer) ≡ ends ++ endAll (framesOf s (p .«open») outer)
+  pub ranked : Ranked (framesOf s (p .«open») outer)
 
-module _ (s : List ℕ) where
-  pub closed-none : (p : Pen) (out : List ℕ) → p .at ≤ greatest → Closed s (p .st) out (p .at) p out
-  closed-none p out h = record { ends = []; put = nothing-put h; rest = refl }
+none-around : (s : List ℕ) (d : ℕ) (outer : List ℕ) → d ≡ 0 → framesIn s d outer ≡ []
+unfolding framesIn
+none-around s d outer e = rw e
 
-  module _ (st : State) (out : List ℕ) (at : ℕ) (p : Pen) (exit : List ℕ) (c : Closed s st out at p exit) (to : ℕ) (laid : List ℕ) (w : Put exit (p .at) (closed s (p .st)) to laid) where
-    pub closed-more : eqb (numberOf (p .st .block)) 0 ≡ false → (q : State) (t : Token) → Left (p .st) q t → Closed s st out at (record { st = q; at = to }) laid
+module _ (s : List ℕ) (outer : List ℕ) where
+  pub closed-none : (p : Pen) (out : List ℕ) → p .at ≤ greatest → Ranked (framesOf s (p .«open») outer) → Closed s (p .«open») outer out (p .at) p out
+  closed-none p out h k = record { ends = []; put = nothing-put h; rest = refl; ranked = k }
+
+  module _ (o : Open) (out : List ℕ) (at : ℕ) (p : Pen) (exit : List ℕ) (c : Closed s o outer out at p exit)
+      (to : ℕ) (laid : List ℕ) (w : Put exit (p .at) (closed s (p .«open») outer) to laid) where
+    abbrev g : Frame ℕ
+    g = frameOf s (p .«open» .inner)
+
+    abbrev gs : List (Frame ℕ)
+    gs = framesIn s (p .«open» .depth) outer
+
+    pub closed-more : (q : Open) → Left s (p .«open») outer q → Closed s o outer out at (record { «open» = q; at = to }) laid
     unfolding endAll
-    closed-more inner q t l =
-        let f = frameOf s (p .st) (p .st .block) in
-        let fs = outerFrames s (p .st) in
-        record {
-          ends = c .ends ++ closing f fs;
-          put = pieces-then (c .ends) (closing f fs) (c .put) w;
-          rest = c .rest ∙ sym (append-assoc (c .ends) (closing f fs) (endAll fs)) ∙ ap (λ gs. (c .ends ++ closing f fs) ++ endAll gs) (sym (around-it s (p .st) q t l inner));
-        }
+    closed-more q l = record {
+      ends = c .ends ++ closing g gs;
+      put = pieces-then (c .ends) (closing g gs) (c .put) w;
+      rest = c .rest ∙ sym (append-assoc (c .ends) (closing g gs) (endAll gs)) ∙ ap (λ hs. (c .ends ++ closing g gs) ++ endAll hs) (sym (around-it s (p .«open») outer q l));
+      ranked = left-ranked s (p .«open») outer q l (c .ranked);
+    }
 
-    pub closed-last : eqb (numberOf (p .st .block)) 0 ≡ true → Put out at (text (endAll (framesOf s st))) to laid
+    pub closed-last : p .«open» .depth ≡ 0 → Put out at (text (endAll (framesOf s o outer))) to laid
     unfolding endAll
-    closed-last b =
-        let f = frameOf s (p .st) (p .st .block) in
-        let fs = outerFrames s (p .st) in
-        let none : fs ≡ [] = rw (the-library (p .st .block) b) in
-        let z : c .ends ++ closing f fs ≡ endAll (framesOf s st) = sym (c .rest ∙ rw none (ap (_++_ (c .ends)) (append-nil (closing f [])))) in
-        put-as (ap text z) (pieces-then (c .ends) (closing f fs) (c .put) w)
+    closed-last d =
+        let none : gs ≡ [] = none-around s (p .«open» .depth) outer d in
+        let z : c .ends ++ closing g gs ≡ endAll (framesOf s o outer) = sym (c .rest ∙ rw none (ap (_++_ (c .ends)) (append-nil (closing g [])))) in
+        put-as (ap text z) (pieces-then (c .ends) (closing g gs) (c .put) w)

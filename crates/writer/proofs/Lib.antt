@@ -1,13 +1,6 @@
-pub mod Laws
-pub mod Copied
-pub mod Numbers
-pub mod Tokens
-pub mod Pieced
-pub mod Closing
 pub mod Ending
 pub mod Taking
 pub mod Writing
 pub mod Stretching
 pub mod Going
 pub mod Answering
-pub mod Formed

@@ -14,16 +14,16 @@ use Rattle.file.specs.declared.Found.{Found}
 use Rattle.file.specs.declared.Found.the-variants.{At, Past}
 use Rattle.file.specs.File.{front, recordAt, recordIn}
 use Rattle.grammar.specs.Turns as T
-use Rattle.reader.specs.Open.{framesOf, stateOf}
+use Rattle.reader.specs.Open.{blocksOf}
 use Rattle.reader.specs.Passed.{storedAll}
 use Rattle.verdict.specs.Verdict.{blank}
 use Rattle.checker.specs.Passing.{Fit}
 use Rattle.checker.proofs.Laying.{laid-at}
 use Rattle.render.specs.Plain.{Plain, bare}
 use Rattle.render.specs.Fit.{admits}
+use Rattle.lines.specs.Put.{greatest}
 use Rattle.writer.specs.declared.pen.Pen.{Pen}
-use Rattle.writer.specs.Put.{greatest}
-use Rattle.writer.specs.Penned.{piecesOf, afterAll, admitsAll, Wrote}
+use Rattle.writer.specs.Penned.{piecesOf, afterAll, admitsAll, framesOf, Stands, Wrote}
 use Rattle.writer.proofs.Ending.{nothing-put}
 use Rattle.writer.proofs.Writing.{admits-append, admits-first, wrote-then}
 
@@ -67,23 +67,25 @@ module _ (w : List ℕ) (k : ℕ) (h : k < length w / 36) (x : Found) (e : x ≡
 -- RECORD BY RECORD
 
 module _ (s : List ℕ) (w : List ℕ) where
-  pub wrote-none : (p : Pen) (out : List ℕ) → p .at ≤ greatest → Wrote s (stateOf s (p .st)) (map (bare s) (front 0 w)) out (p .at) p out
+  pub wrote-none : (p : Pen) (outer out : List ℕ) → p .at ≤ greatest → Stands s (p .«open») outer
+      → Wrote s (blocksOf s (p .«open») outer) (map (bare s) (front 0 w)) out (p .at) p outer out
   unfolding rows-front piecesOf afterAll
-  wrote-none p out h = record { put = nothing-put h; state = refl }
+  wrote-none p outer out h k = record { put = nothing-put h; state = refl; stands = k }
 
-  module _ (t : T.State ℕ) (k : ℕ) (out : List ℕ) (at : ℕ) (p : Pen) (mid : List ℕ) (a : Wrote s t (map (bare s) (front k w)) out at p mid)
+  module _ (t : T.State ℕ) (k : ℕ) (out : List ℕ) (at : ℕ) (p : Pen) (outer mid : List ℕ) (a : Wrote s t (map (bare s) (front k w)) out at p outer mid)
       (r : Record) (e : r ≡ recordIn w k) where
-    pub next-admitted : (c : ℕ) → k < c → admitsAll t (map (bare s) (front c w)) ≡ true → admits (p .st .version) (framesOf s (p .st)) (bare s r) ≡ true
+    pub next-admitted : (c : ℕ) → k < c → admitsAll t (map (bare s) (front c w)) ≡ true
+        → admits (p .«open» .version) (framesOf s (p .«open») outer) (bare s r) ≡ true
     next-admitted c h d =
         let (rest, z) = front-rest s k c w h in
         let u = admits-append t (map (bare s) (front k w)) (bare s (recordIn w k) ∷ rest) (rw z at d) in
         let v = admits-first (afterAll t (map (bare s) (front k w))) (bare s (recordIn w k)) rest u in
         rw e (subst (λ q. admits (q .version) (q .blocks) (bare s (recordIn w k)) ≡ true) (sym (a .state)) v)
 
-    pub wrote-next : (q : Pen) (exit : List ℕ) → Wrote s (stateOf s (p .st)) (bare s r ∷ []) mid (p .at) q exit
-        → Wrote s t (map (bare s) (front (k + 1) w)) out at q exit
-    wrote-next q exit b = rw (front-more s k w) (wrote-then a (rw (a .state, e) at b))
+    pub wrote-next : (q : Pen) (outer' exit : List ℕ) → Wrote s (blocksOf s (p .«open») outer) (bare s r ∷ []) mid (p .at) q outer' exit
+        → Wrote s t (map (bare s) (front (k + 1) w)) out at q outer' exit
+    wrote-next q outer' exit b = rw (front-more s k w) (wrote-then a (rw (a .state, e) at b))
 
-  pub wrote-all : {t : T.State ℕ} (k c : ℕ) {out : List ℕ} {at : ℕ} {p : Pen} {exit : List ℕ} → k ≡ c
-      → Wrote s t (map (bare s) (front k w)) out at p exit → Wrote s t (map (bare s) (front c w)) out at p exit
+  pub wrote-all : {t : T.State ℕ} (k c : ℕ) {out : List ℕ} {at : ℕ} {p : Pen} {outer exit : List ℕ} → k ≡ c
+      → Wrote s t (map (bare s) (front k w)) out at p outer exit → Wrote s t (map (bare s) (front c w)) out at p outer exit
   wrote-all k c e a = rw e at a

@@ -1,151 +1,196 @@
--- A block takes a record in the form that the table gives it there, which does to the open blocks what a record of its kind does: by one
--- walk of the forms of each block.
+-- A block takes a record in the form that the table gives it there. What the record opens stands deeper, by one test of the forms of each block.
 use Prim.Native.Nat.{ℕ, _≤_}
+use native.Mathlib.Decide.{ℕ-discrete}
 use native.Mathlib.Omega.{arith}
 use mathlib.Core.Path.{_≡_, refl, sym, ap, _∙_}
-use mathlib.Core.Bool.{Bool, true, false, cond, false≢true}
-use mathlib.Core.List.{List, [], _∷_, map}
-use lib.Dec.{eqb}
-use borrow.Author.Tests.{eqb-true}
-use Rattle.record.specs.declared.Record.{Record}
-use Rattle.record.specs.Kinds.{LAYER-OPTION}
-use Rattle.lexer.specs.declared.Token.{Token}
+use mathlib.Core.Bool.{Bool, true, false, cond, _&&_}
+use mathlib.Core.List.{List, [], _∷_}
+use lib.Dec.{ltb}
+use lib.ListN.{length}
+use borrow.Author.Tests.{ltb-true}
 use Rattle.word.proofs.Words.{both}
-use Rattle.grammar.specs.Grammar as G
-use Rattle.grammar.specs.Grammar.{Move, stay, enter, named, version}
+use Rattle.grammar.specs.Grammar.{Block, Library, Units, Site, Symmetry, Macro, Pin, Port, Obs, Options, Layer, Rect, Polygon, Path, Move, stay, enter, named, version}
 use Rattle.grammar.specs.Table.{body}
 use Rattle.grammar.specs.Engine.{Maybe, none, some, Frame}
-use Rattle.grammar.specs.Turns.{shift}
-use Rattle.parser.specs.Stepped.{labelled, moveOf}
-use Rattle.reader.specs.declared.state.Block.{Block}
-use Rattle.reader.specs.declared.state.Block.the-variants as B
-use Rattle.reader.specs.declared.state.State.{State}
-use Rattle.reader.specs.Open.{blockOf, frameOf, aroundLayer, around, outerFrames, movedTo, numberOf, homes, fitsIn, fits}
-use Rattle.reader.specs.Stepped.{afterIn}
-use Rattle.reader.proofs.After.{frames-moved}
-use Rattle.reader.proofs.Turning.{frame-block}
+use Rattle.grammar.specs.Turns as T
+use Rattle.rows.specs.Packed as P
+use Rattle.rows.specs.Packed.{blockOf, formOf, nextOf, afterIn}
+use Rattle.parser.specs.Kept.{frameOf}
+use Rattle.reader.specs.declared.open.Open.{Open}
+use Rattle.reader.specs.Open.{framesIn, blocksOf, rank, Ranked}
+use Rattle.reader.proofs.Ranks.{Deeper}
 use Rattle.render.specs.Pieces.{text}
-use Rattle.render.specs.Plain.{Plain, bare}
+use Rattle.render.specs.Plain.{Plain}
 use Rattle.render.specs.Forms.{Form, formsOf, rowForms, formsIn, isOf, formFor}
-use Rattle.render.specs.Lines.{lineEnd, formIn, takenBy, before, entered}
-use Rattle.render.specs.Fit.{takes}
-use Rattle.writer.specs.Put.{greatest, Put}
-use Rattle.writer.specs.Penned.{Takes, Settled}
+use Rattle.render.specs.Lines.{lineEnd, formIn, takenBy, taking, before}
+use Rattle.lines.specs.declared.form.Formed.{Formed}
+use Rattle.lines.specs.declared.form.Formed.the-variants as F
+use Rattle.lines.specs.Put.{greatest, Put}
+use Rattle.lines.specs.Formed.{asFormed}
+use Rattle.writer.specs.Penned.{Settled}
 use Rattle.writer.proofs.Ending.{nothing-put}
+
+-- THE FORM THAT IS FOUND
+
+pub as-found : (b k c : ℕ) (x : Formed) → ((f : Frame ℕ) (p : Plain) → f .block ≡ blockOf b → p .kind ≡ k → p .code ≡ c → formIn f p ≡ asFormed k x)
+    → (p : Plain) → k ≡ p .kind → c ≡ p .code → (f : Frame ℕ) → f .block ≡ blockOf b → formIn f p ≡ asFormed (p .kind) x
+as-found b k c x h p e d f q = h f p q (sym e) (sym d) ∙ ap (λ j. asFormed j x) e
 
 -- THE BLOCK BEFORE THE RECORD
 
+-- only a block of options is made of options
+is-options : (b : Block) → formOf (body b) ≡ 2 → b ≡ Options
+unfolding formOf
+is-options Library h = absurd (let z : ⊥ = omega arith in z)
+is-options Units h = absurd (let z : ⊥ = omega arith in z)
+is-options Site h = absurd (let z : ⊥ = omega arith in z)
+is-options Symmetry h = absurd (let z : ⊥ = omega arith in z)
+is-options Macro h = absurd (let z : ⊥ = omega arith in z)
+is-options Pin h = absurd (let z : ⊥ = omega arith in z)
+is-options Port h = absurd (let z : ⊥ = omega arith in z)
+is-options Obs h = absurd (let z : ⊥ = omega arith in z)
+is-options Options h = refl
+is-options Layer h = absurd (let z : ⊥ = omega arith in z)
+is-options Rect h = absurd (let z : ⊥ = omega arith in z)
+is-options Polygon h = absurd (let z : ⊥ = omega arith in z)
+is-options Path h = absurd (let z : ⊥ = omega arith in z)
+
 -- a block that is no options is as it was
-steady : (b : Block) → eqb (numberOf b) 8 ≡ false → (f : Frame ℕ) → f .block ≡ blockOf b → (takenBy f none ≡ f) × (before f none ≡ [])
-steady B.Library h f e = (rw e, rw e)
-steady B.Units h f e = (rw e, rw e)
-steady B.Site h f e = (rw e, rw e)
-steady B.Symmetry h f e = (rw e, rw e)
-steady B.Macro h f e = (rw e, rw e)
-steady B.Pin h f e = (rw e, rw e)
-steady B.Port h f e = (rw e, rw e)
-steady B.Obs h f e = (rw e, rw e)
-steady B.Options h f e = absurd (false≢true (sym h))
-steady B.Layer h f e = (rw e, rw e)
-steady B.Rect h f e = (rw e, rw e)
-steady B.Polygon h f e = (rw e, rw e)
-steady B.Path h f e = (rw e, rw e)
+steady : (b : Block) → (formOf (body b) ≡ 2 → ⊥) → (f : Frame ℕ) → f .block ≡ b → (takenBy f none ≡ f) × (before f none ≡ [])
+unfolding formOf
+steady Library h f e = (rw e, rw e)
+steady Units h f e = (rw e, rw e)
+steady Site h f e = (rw e, rw e)
+steady Symmetry h f e = (rw e, rw e)
+steady Macro h f e = (rw e, rw e)
+steady Pin h f e = (rw e, rw e)
+steady Port h f e = (rw e, rw e)
+steady Obs h f e = (rw e, rw e)
+steady Options h f e = absurd (h refl)
+steady Layer h f e = (rw e, rw e)
+steady Rect h f e = (rw e, rw e)
+steady Polygon h f e = (rw e, rw e)
+steady Path h f e = (rw e, rw e)
 
-no-option : (r : Plain) → r .kind ≡ LAYER-OPTION → formFor r (formsIn (body G.Layer)) ≡ none
-unfolding formFor formsIn rowForms formsOf isOf
-no-option r k = rw k
+-- the block after them, by its number
+module _ (b next : ℕ) (h : P.formIn b ≡ 2) (n : blockOf next ≡ afterIn b) where
+  pub the-options : blockOf b ≡ Options
+  unfolding P.formIn
+  the-options = is-options (blockOf b) h
 
-other-kind : (r : Plain) → eqb LAYER-OPTION (r .kind) ≡ false → formFor r (formsIn (body G.Options)) ≡ none
-unfolding formFor formsIn rowForms formsOf isOf
-other-kind r k = rw k
+  the-layer : blockOf next ≡ Layer
+  unfolding afterIn nextOf
+  the-layer = n ∙ rw the-options
 
-module _ (s : List ℕ) (o : State) (r : Plain) (out : List ℕ) (at : ℕ) where
+  pub not-first : b ≡ 0 → ⊥
+  unfolding blockOf
+  not-first e = let z : rank Library ≡ rank Options = ap rank (rw e at the-options) in omega arith
+
+  pub not-first-then : next ≡ 0 → ⊥
+  unfolding blockOf
+  not-first-then e = let z : rank Library ≡ rank Layer = ap rank (rw e at the-layer) in omega arith
+
+module _ (s : List ℕ) (o : Open) (r : Plain) (out : List ℕ) (at : ℕ) (x : Formed) where
   abbrev inner : Frame ℕ
-  inner = frameOf s o (o .block)
+  inner = frameOf s (o .inner)
 
-  module _ (h : at ≤ greatest) where
-    as-it-was : takenBy inner (formIn inner r) ≡ inner → before inner (formIn inner r) ≡ [] → Settled s o r out at (record { st = o; at = at }) out
-    as-it-was e d = record { put = rw d (nothing-put h); version = refl; frame = sym e; outer = refl }
+  as-it-was : at ≤ greatest → takenBy inner (formIn inner r) ≡ inner → before inner (formIn inner r) ≡ [] → formIn inner r ≡ asFormed (r .kind) x
+      → Settled s o r out at (record { «open» = o; at = at; formed = x }) out
+  as-it-was h e d q = record {
+    put = rw d (nothing-put h);
+    blocks = λ outer. ap (λ f. T.state (o .version) (f ∷ framesIn s (o .depth) outer)) (sym e);
+    formed = ap (λ f. formIn f r) e ∙ q;
+  }
 
-    pub settled-other : eqb (numberOf (o .block)) 8 ≡ false → Settled s o r out at (record { st = o; at = at }) out
-    settled-other b = go (formIn inner r) refl
-      where
-        go : (m : Maybe Form) → formIn inner r ≡ m → Settled s o r out at (record { st = o; at = at }) out
-        go none e = let z = steady (o .block) b inner (frame-block s o (o .block)) in as-it-was (rw e (z .0)) (rw e (z .1))
-        go (some m) e = as-it-was (rw e) (rw e)
+  pub settled-formed : at ≤ greatest → (w : _) (row : _) → x ≡ F.In w row → formIn inner r ≡ asFormed (r .kind) x
+      → Settled s o r out at (record { «open» = o; at = at; formed = x }) out
+  settled-formed h w row e q = let z : formIn inner r ≡ asFormed (r .kind) (F.In w row) = rw e at q in as-it-was h (rw z) (rw z) q
 
-    -- an option in the options
-    pub settled-option : o .block ≡ B.Options → r .kind ≡ LAYER-OPTION → (v : ℕ) → Takes v inner r → Settled s o r out at (record { st = o; at = at }) out
-    settled-option b k v t = go (formIn inner r) refl
-      where
-        go : (m : Maybe Form) → formIn inner r ≡ m → Settled s o r out at (record { st = o; at = at }) out
-        go none e = absurd (false≢true (rw (e, b, no-option r k) at t))
-        go (some m) e = as-it-was (rw e) (rw e)
+  pub settled-other : at ≤ greatest → x ≡ F.None → (P.formIn (o .inner .block) ≡ 2 → ⊥) → formIn inner r ≡ asFormed (r .kind) x
+      → Settled s o r out at (record { «open» = o; at = at; formed = x }) out
+  unfolding P.formIn
+  settled-other h e b q =
+      let z : formIn inner r ≡ none = rw e at q in
+      let y = steady (blockOf (o .inner .block)) b inner refl in
+      as-it-was h (rw z (y .0)) (rw z (y .1)) q
 
-  -- another record ends their line
-  pub settled-line : o .block ≡ B.Options → eqb LAYER-OPTION (r .kind) ≡ false → (to : ℕ) (exit : List ℕ) → Put out at (text lineEnd) to exit
-      → (q : State) (t : Token) → q ≡ movedTo B.Layer t o → Settled s o r out at (record { st = q; at = to }) exit
-  settled-line b k to exit w q t l = rw l (record {
-    put = rw (b, other-kind r k) w;
-    version = refl;
-    frame = rw (b, other-kind r k);
-    outer = frames-moved s o t B.Layer (aroundLayer (o .«in_port»)) ∙ ap (λ c. map (frameOf s o) (around o c)) (sym b);
-  })
+  -- another record ends the line of the options
+  module _ (none-there : x ≡ F.None) (q : formIn inner r ≡ asFormed (r .kind) x) (next : ℕ)
+      (h : P.formIn (o .inner .block) ≡ 2) (n : blockOf next ≡ afterIn (o .inner .block)) where
+    after-them : taking inner r ≡ T.become (blockOf next) inner
+    after-them =
+        let z : formIn inner r ≡ none = rw none-there at q in
+        rw (z, the-options (o .inner .block) next h n, the-layer (o .inner .block) next h n)
+
+    pub settled-line : (to : ℕ) (exit : List ℕ) → Put out at (text lineEnd) to exit → (p : Open)
+        → ((outer : List ℕ) → (o .inner .block ≡ 0 → ⊥) → (next ≡ 0 → ⊥) → blocksOf s p outer ≡ T.state (o .version) (T.become (blockOf next) inner ∷ framesIn s (o .depth) outer))
+        → (y : Formed) → ((f : Frame ℕ) → f .block ≡ blockOf next → formIn f r ≡ asFormed (r .kind) y)
+        → Settled s o r out at (record { «open» = p; at = to; formed = y }) exit
+    settled-line to exit w p l y g =
+        let z : formIn inner r ≡ none = rw none-there at q in
+        record {
+          put = rw (z, the-options (o .inner .block) next h n) w;
+          blocks = λ outer. l outer (not-first (o .inner .block) next h n) (not-first-then (o .inner .block) next h n) ∙ ap (λ f. T.state (o .version) (f ∷ framesIn s (o .depth) outer)) (sym after-them);
+          formed = g (taking inner r) (ap (λ f. f .block) after-them);
+        }
+
+-- the block as it takes the record stands no deeper than it can
+pub taking-ranked : (f : Frame ℕ) (fs : List (Frame ℕ)) (r : Plain) → Ranked (f ∷ fs) → Ranked (taking f r ∷ fs)
+taking-ranked f fs r h = go (formIn f r)
+  where
+    go : (m : Maybe Form) → Ranked (takenBy f m ∷ fs)
+    go none = elim (ℕ-discrete (formOf (body (f .block))) 2) [
+      | yes e ↦ let b = is-options (f .block) e in let d : length fs ≤ rank Options = rw b at (h .0) in rw b (d, h .1)
+      | no e ↦ rw (steady (f .block) e f refl .0) h
+    ]
+    go (some m) = h
 
 -- THE FORMS OF THE TABLE
 
--- the block may have records of the form's kind, and the form moves as the kind does
-abbrev Good : Block → List Form → Type 0
-Good b [] = Unit {0}
-Good b (m ∷ ms) = (fits b (m .kind) ≡ true) × (m .move ≡ moveOf (m .kind)) × Good b ms
+unfoldable deeper : ℕ → Move → Bool
+deeper n stay = true
+deeper n (enter b ks) = ltb n (rank b)
+deeper n (named b ks) = ltb n (rank b)
+deeper n version = true
 
-good : (b : Block) → Good b (formsIn (body (blockOf b)))
-unfolding formsIn rowForms formsOf homes fitsIn moveOf
-good B.Library = (refl, refl, (refl, refl, (refl, refl, (refl, refl, (refl, refl, (refl, refl, (refl, refl, (refl, refl, tt))))))))
-good B.Units = (refl, refl, tt)
-good B.Site = (refl, refl, (refl, refl, (refl, refl, tt)))
-good B.Symmetry = (refl, refl, tt)
-good B.Macro = (refl, refl, (refl, refl, (refl, refl, (refl, refl, (refl, refl, (refl, refl, (refl, refl, (refl, refl, tt))))))))
-good B.Pin = (refl, refl, (refl, refl, (refl, refl, (refl, refl, (refl, refl, (refl, refl, (refl, refl, (refl, refl, (refl, refl, (refl, refl, (refl, refl, (refl, refl, (refl, refl, (refl, refl, tt))))))))))))))
-good B.Port = (refl, refl, (refl, refl, tt))
-good B.Obs = (refl, refl, tt)
-good B.Options = (refl, refl, (refl, refl, (refl, refl, tt)))
-good B.Layer = (refl, refl, (refl, refl, (refl, refl, (refl, refl, (refl, refl, tt)))))
-good B.Rect = (refl, refl, tt)
-good B.Polygon = (refl, refl, tt)
-good B.Path = (refl, refl, tt)
+unfoldable rising : ℕ → List Form → Bool
+rising n [] = true
+rising n (m ∷ ms) = deeper n (m .move) && rising n ms
 
-form-found : (b : Block) (r : Plain) (ms : List Form) → Good b ms → (m : Form) → formFor r ms ≡ some m → (fits b (r .kind) ≡ true) × (m .move ≡ moveOf (r .kind))
-unfolding formFor isOf
-form-found b r [] g m e = absurd (let z : _≡_ {A = ℕ} 0 1 = cc in let w : ⊥ = omega arith in w)
-form-found b r (n ∷ ns) g m e = go (isOf r n) refl e (λ q. form-found b r ns (g .2) m q)
+passes : (b : Block) → rising (rank b) (formsIn (body b)) ≡ true
+unfolding formsIn rowForms formsOf rising deeper
+passes Library = refl
+passes Units = refl
+passes Site = refl
+passes Symmetry = refl
+passes Macro = refl
+passes Pin = refl
+passes Port = refl
+passes Obs = refl
+passes Options = refl
+passes Layer = refl
+passes Rect = refl
+passes Polygon = refl
+passes Path = refl
+
+deeper-is : (n : ℕ) (m : Move) → deeper n m ≡ true → Deeper n m
+unfolding deeper
+deeper-is n stay h = tt
+deeper-is n (enter b ks) h = ltb-true n (rank b) h
+deeper-is n (named b ks) h = ltb-true n (rank b) h
+deeper-is n version h = tt
+
+form-found : (n : ℕ) (r : Plain) (ms : List Form) → rising n ms ≡ true → (m : Form) → formFor r ms ≡ some m → deeper n (m .move) ≡ true
+unfolding formFor rising
+form-found n r [] g m e = absurd (let z : _≡_ {A = ℕ} 0 1 = cc in let w : ⊥ = omega arith in w)
+form-found n r (p ∷ ps) g m e =
+    let h = both (deeper n (p .move)) (rising n ps) g in
+    go (isOf r p) e (h .0) (λ q. form-found n r ps (h .1) m q)
   where
-    go : (c : Bool) → isOf r n ≡ c → cond c (some n) (formFor r ns) ≡ some m
-        → (formFor r ns ≡ some m → (fits b (r .kind) ≡ true) × (m .move ≡ moveOf (r .kind))) → (fits b (r .kind) ≡ true) × (m .move ≡ moveOf (r .kind))
-    go true t q next =
-        let z : n ≡ m = cc in
-        let k : n .kind ≡ r .kind = eqb-true (n .kind) (r .kind) (both _ _ t .0) in
-        (rw k at (g .0), rw (← z, ← k) (g .1))
-    go false t q next = next q
+    go : (c : Bool) → cond c (some p) (formFor r ps) ≡ some m → deeper n (p .move) ≡ true → (formFor r ps ≡ some m → deeper n (m .move) ≡ true) → deeper n (m .move) ≡ true
+    go true q t next = let z : p ≡ m = cc in rw z at t
+    go false q t next = next q
 
--- THE STATE AFTER IT
-
--- only a named block has the name
-unlabelled : (m : Move) (k p : ℕ) (l : List ℕ) (u v : ℕ) (f : Frame ℕ) (fs : List (Frame ℕ)) → shift m k p (labelled m l) u v f fs ≡ shift m k p l u v f fs
-unlabelled stay k p l u v f fs = refl
-unlabelled (enter b ks) k p l u v f fs = refl
-unlabelled (named b ks) k p l u v f fs = refl
-unlabelled version k p l u v f fs = refl
-
-pub enters : (s : List ℕ) (o : State) (r : Record) (v : ℕ) → v ≡ o .version
-    → takes v (frameOf s o (o .block)) (bare s r) (formIn (frameOf s o (o .block)) (bare s r)) ≡ true
-    → (fits (o .block) (r .kind) ≡ true)
-    × (afterIn s o r ≡ entered v (frameOf s o (o .block)) (outerFrames s o) (bare s r) (formIn (frameOf s o (o .block)) (bare s r)))
-enters s o r v e t = go (formIn (frameOf s o (o .block)) (bare s r)) refl t
-  where
-    go : (x : Maybe Form) → formIn (frameOf s o (o .block)) (bare s r) ≡ x → takes v (frameOf s o (o .block)) (bare s r) x ≡ true
-        → (fits (o .block) (r .kind) ≡ true) × (afterIn s o r ≡ entered v (frameOf s o (o .block)) (outerFrames s o) (bare s r) x)
-    go none q h = absurd (false≢true h)
-    go (some m) q h =
-        let z = form-found (o .block) (bare s r) (formsIn (body (blockOf (o .block)))) (good (o .block)) m (rw (frame-block s o (o .block)) at q) in
-        (z .0, unlabelled (moveOf (r .kind)) _ _ _ _ _ _ _ ∙ rw (e, z .1))
+-- what a record opens in its form
+pub form-deeper : (f : Frame ℕ) (r : Plain) (m : Form) → formIn f r ≡ some m → Deeper (rank (f .block)) (m .move)
+form-deeper f r m e = deeper-is (rank (f .block)) (m .move) (form-found (rank (f .block)) r (formsIn (body (f .block))) (passes (f .block)) m e)

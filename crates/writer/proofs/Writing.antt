@@ -1,28 +1,36 @@
 -- What is written of records in a row is what is written of the first and then of the others, from the state after the first.
-use Prim.Native.Nat.{ℕ}
-use mathlib.Core.Path.{_≡_, refl, sym, ap, ap₂, subst, _∙_}
-use mathlib.Core.Bool.{true}
+use Prim.Native.Nat.{ℕ, _/_, _≤_, _<_}
+use native.Mathlib.Omega.{arith}
+use mathlib.Core.Path.{_≡_, refl, sym, ap, subst, _∙_}
+use mathlib.Core.Bool.{true, false≢true}
 use mathlib.Core.List.{List, [], _∷_, _++_, append-assoc, append-nil}
 use lib.ListN.{length}
 use Rattle.record.specs.declared.Record.{Record}
-use Rattle.lexer.specs.declared.Token.{Token}
 use Rattle.word.proofs.Words.{both}
 use Rattle.grammar.specs.Engine.{Frame}
 use Rattle.grammar.specs.Turns as T
-use Rattle.reader.specs.declared.state.State.{State}
-use Rattle.reader.specs.Open.{frameOf, outerFrames, framesOf, stateOf, fits}
-use Rattle.reader.specs.Stepped.{afterIn}
+use Rattle.rows.specs.Packed.{moveOf}
+use Rattle.parser.specs.Kept.{frameOf}
+use Rattle.reader.specs.declared.open.Open.{Open}
+use Rattle.reader.specs.Open.{framesIn, blocksOf, Pushes, rank, Ranked}
+use Rattle.reader.proofs.Stack.{frames-length}
+use Rattle.reader.proofs.Ranks.{Deeper, deeper-inside, deeper-room, shift-ranked}
 use Rattle.render.specs.Pieces.{Piece, text}
 use Rattle.render.specs.Plain.{Plain, bare}
 use Rattle.render.specs.Lines.{formIn, taking, before, statement, entered, endAll, pieces, after, lines}
 use Rattle.render.specs.Fit.{takes, admits, fitFrom}
+use Rattle.lines.specs.declared.form.Formed.{Formed}
+use Rattle.lines.specs.declared.form.Formed.the-variants as F
+use Rattle.lines.specs.Put.{Put}
+use Rattle.lines.specs.Formed.{asFormed}
+use Rattle.lines.specs.Stated.{statedIn}
+use Rattle.lines.proofs.Laws.{put-as}
+use Rattle.lines.proofs.Pieced.{pieces-then}
 use Rattle.writer.specs.declared.pen.Pen.{Pen}
-use Rattle.writer.specs.Put.{Put}
-use Rattle.writer.specs.Stated.{stated}
-use Rattle.writer.specs.Penned.{piecesOf, afterAll, admitsAll, Wrote, Reached, Takes, Settled}
-use Rattle.writer.proofs.Laws.{put-as}
-use Rattle.writer.proofs.Pieced.{pieces-then}
-use Rattle.writer.proofs.Taking.{enters}
+use Rattle.writer.specs.declared.pen.Taken.{Taken}
+use Rattle.writer.specs.Penned.{piecesOf, afterAll, admitsAll, framesOf, Wrote, Reached, Takes, Settled, moveIn, Enters}
+use Rattle.writer.proofs.Ending.{shallow}
+use Rattle.writer.proofs.Taking.{taking-ranked, form-deeper}
 
 -- RECORDS IN A ROW
 
@@ -72,63 +80,121 @@ fits-first t (r ∷ rs) qs h =
 
 -- THE PEN
 
-pub wrote-then : {s : List ℕ} {t : T.State ℕ} {rs qs : List Plain} {out mid exit : List ℕ} {at : ℕ} {p q : Pen}
-    → Wrote s t rs out at p mid → Wrote s (afterAll t rs) qs mid (p .at) q exit → Wrote s t (rs ++ qs) out at q exit
+pub wrote-then : {s : List ℕ} {t : T.State ℕ} {rs qs : List Plain} {out mid exit : List ℕ} {at : ℕ} {p q : Pen} {outer outer' : List ℕ}
+    → Wrote s t rs out at p outer mid → Wrote s (afterAll t rs) qs mid (p .at) q outer' exit → Wrote s t (rs ++ qs) out at q outer' exit
 wrote-then {t = t} {rs = rs} {qs = qs} a b = record {
   put = put-as (ap text (sym (pieces-append t rs qs))) (pieces-then (piecesOf t rs) (piecesOf (afterAll t rs) qs) (a .put) (b .put));
   state = b .state ∙ sym (after-append t rs qs);
+  stands = b .stands;
 }
 
 -- the ends after records
-pub wrote-ends : {s : List ℕ} {t : T.State ℕ} {rs : List Plain} {out mid exit : List ℕ} {at n : ℕ} {p : Pen}
-    → Wrote s t rs out at p mid → Put mid (p .at) (text (endAll (framesOf s (p .st)))) n exit → Put out at (text (lines t rs)) n exit
-wrote-ends {s} {t} {rs} {mid = mid} {exit = exit} {n = n} {p = p} a b =
-    let z : framesOf s (p .st) ≡ afterAll t rs .blocks = ap (λ u. u .blocks) (a .state) in
+pub wrote-ends : {s : List ℕ} {t : T.State ℕ} {rs : List Plain} {out mid exit : List ℕ} {at n : ℕ} {p : Pen} {outer : List ℕ}
+    → Wrote s t rs out at p outer mid → Put mid (p .at) (text (endAll (framesOf s (p .«open») outer))) n exit → Put out at (text (lines t rs)) n exit
+wrote-ends {s} {t} {rs} {mid = mid} {exit = exit} {n = n} {p = p} {outer = outer} a b =
+    let z : framesOf s (p .«open») outer ≡ afterAll t rs .blocks = ap (λ u. u .blocks) (a .state) in
     put-as (ap text (lines-end t rs)) (pieces-then (piecesOf t rs) (endAll (afterAll t rs .blocks)) (a .put) (subst (λ fs. Put mid (p .at) (text (endAll fs)) n exit) z b))
 
-pub wrote-lines : {s : List ℕ} {t : T.State ℕ} {rs : List Plain} (qs : List Plain) {out mid exit : List ℕ} {at n : ℕ} {p : Pen}
-    → Wrote s t rs out at p mid → Put mid (p .at) (text (lines (stateOf s (p .st)) qs)) n exit → Put out at (text (lines t (rs ++ qs))) n exit
+pub wrote-lines : {s : List ℕ} {t : T.State ℕ} {rs : List Plain} (qs : List Plain) {out mid exit : List ℕ} {at n : ℕ} {p : Pen} {outer : List ℕ}
+    → Wrote s t rs out at p outer mid → Put mid (p .at) (text (lines (blocksOf s (p .«open») outer) qs)) n exit → Put out at (text (lines t (rs ++ qs))) n exit
 wrote-lines {s} {t} {rs} qs {mid = mid} {exit = exit} {n = n} {p = p} a b =
     put-as (ap text (lines-append t rs qs))
     (pieces-then (piecesOf t rs) (lines (afterAll t rs) qs) (a .put) (subst (λ u. Put mid (p .at) (text (lines u qs)) n exit) (a .state) b))
 
 -- A RECORD
 
-module _ (s : List ℕ) (st : State) (r : Record) (out : List ℕ) (at : ℕ) (p : Pen) (mid : List ℕ) (e : Reached s st (bare s r) out at p mid) where
+first-of : {f g : Frame ℕ} {fs gs : List (Frame ℕ)} → f ∷ fs ≡ g ∷ gs → f ≡ g
+first-of e = cc
+
+rest-of : {f g : Frame ℕ} {fs gs : List (Frame ℕ)} → f ∷ fs ≡ g ∷ gs → fs ≡ gs
+rest-of e = cc
+
+module _ (s : List ℕ) (o : Open) (outer : List ℕ) (r : Record) (out : List ℕ) (at : ℕ) (p : Pen) (mid : List ℕ) (e : Reached s o outer (bare s r) out at p mid)
+    (x : Taken) (mid' : List ℕ) (d : Settled s (p .«open») (bare s r) mid (p .at) x mid') where
   abbrev b : Plain
   b = bare s r
 
+  -- the block that has the record, as it was and as it takes it, and those around it
   abbrev f : Frame ℕ
-  f = frameOf s (p .st) (p .st .block)
+  f = frameOf s (p .«open» .inner)
 
-  takes-it : Takes (st .version) f b
+  abbrev g : Frame ℕ
+  g = taking f b
+
+  abbrev fs : List (Frame ℕ)
+  fs = framesIn s (p .«open» .depth) outer
+
+  takes-it : Takes (o .version) f b
   unfolding admits
   takes-it = rw (e .owned) at (e .ended .admitted)
 
-  pub reached-takes : Takes (p .st .version) f b
-  reached-takes = ap (λ v. takes v (taking f b) b (formIn (taking f b) b)) (e .ended .version) ∙ takes-it
+  frame : frameOf s (x .«open» .inner) ≡ g
+  frame = first-of (ap (λ t. t .blocks) (d .blocks outer))
 
-  module _ (q : Pen) (mid' : List ℕ) (d : Settled s (p .st) b mid (p .at) q mid') where
-    abbrev stating : List Piece
-    stating = statement (length (outerFrames s (p .st))) (taking f b) b (formIn (taking f b) b)
+  around : framesIn s (x .«open» .depth) outer ≡ fs
+  around = rest-of (ap (λ t. t .blocks) (d .blocks outer))
 
-    written : piecesOf (stateOf s st) (b ∷ []) ≡ e .ended .ends ++ (before f (formIn f b) ++ stating)
-    unfolding piecesOf pieces
-    written = append-nil (pieces (framesOf s st) b) ∙ e .ended .rest ∙ rw (e .owned)
+  in-version : x .«open» .version ≡ o .version
+  in-version = ap (λ t. t .version) (d .blocks outer) ∙ e .ended .version
 
-    state-after : (x : State) (h : Token) → (x .held ≡ h) × ((l : List ℕ) → fits (q .st .block) (r .kind) ≡ true → stateOf l x ≡ afterIn l (q .st) r)
-        → stateOf s x ≡ afterAll (stateOf s st) (b ∷ [])
-    unfolding afterAll after
-    state-after x h a =
-        let z = enters s (q .st) r (st .version) (sym (d .version ∙ e .ended .version)) (ap (λ g. takes (st .version) g b (formIn g b)) (d .frame) ∙ takes-it) in
-        a .1 s (z .0) ∙ z .1 ∙ ap₂ (λ g gs. entered (st .version) g gs b (formIn g b)) (d .frame) (d .outer) ∙ sym (e .ended .state ∙ rw (e .owned))
+  ranked : Ranked (g ∷ fs)
+  ranked = taking-ranked f fs b (e .ended .ranked)
 
-    pub record-written : (to : ℕ) (exit : List ℕ) → Put mid' (q .at) (stated s (q .st) r) to exit → (x : State) (h : Token)
-        → (x .held ≡ h) × ((l : List ℕ) → fits (q .st .block) (r .kind) ≡ true → stateOf l x ≡ afterIn l (q .st) r)
-        → Wrote s (stateOf s st) (b ∷ []) out at (record { st = x; at = to }) exit
-    record-written to exit w x h a = record {
-      put = put-as (ap text (sym written))
-          (pieces-then (e .ended .ends) (before f (formIn f b) ++ stating) (e .ended .put)
-          (pieces-then (before f (formIn f b)) stating (d .put) (rw (d .outer, d .frame) at w)));
-      state = state-after x h a;
-    }
+  depth : x .«open» .depth ≡ length fs
+  depth = sym (frames-length s (x .«open» .depth) outer) ∙ ap length around
+
+  -- the statement may be written
+  pub stating-in : (x .«open» .depth ≤ 16) × (formIn (frameOf s (x .«open» .inner)) b ≡ asFormed (r .kind) (x .formed))
+  stating-in = (
+    omega (arith, depth, frames-length s (p .«open» .depth) outer, shallow s (p .«open») outer (e .ended .ranked)),
+    ap (λ h. formIn h b) frame ∙ d .formed,
+  )
+
+  deeper : (y : Formed) → formIn g b ≡ asFormed (r .kind) y → Deeper (rank (g .block)) (moveIn y)
+  deeper (F.In w row) q = form-deeper g b _ q
+  deeper F.None q = tt
+
+  -- and the record may be entered
+  pub entering-in : Pushes (moveIn (x .formed)) → x .«open» .depth < 5
+  entering-in h = omega (arith, depth, deeper-room g fs ranked (moveIn (x .formed)) (deeper (x .formed) (d .formed)) h)
+
+  abbrev stating : List Piece
+  stating = statement (length fs) g b (formIn g b)
+
+  written : piecesOf (blocksOf s o outer) (b ∷ []) ≡ e .ended .ends ++ (before f (formIn f b) ++ stating)
+  unfolding piecesOf pieces
+  written = append-nil (pieces (framesOf s o outer) b) ∙ e .ended .rest ∙ rw (e .owned)
+
+  goes-on : afterAll (blocksOf s o outer) (b ∷ []) ≡ entered (o .version) g fs b (formIn g b)
+  unfolding afterAll after
+  goes-on = e .ended .state ∙ rw (e .owned)
+
+  -- the open blocks after it
+  module _ (q : Open) (outer' : List ℕ) where
+    in-state : (y : Formed) → formIn g b ≡ asFormed (r .kind) y → Enters s (x .«open») outer r y q outer'
+        → (blocksOf s q outer' ≡ entered (o .version) g fs b (formIn g b)) × Ranked (framesOf s q outer')
+    in-state (F.In w row) h a =
+        let m = moveOf (row .head / 256) in
+        let n = deeper (F.In w row) h in
+        let z : blocksOf s q outer' ≡ T.shift m (r .kind) (r .at) (b .name) (r .x) (o .version) g fs
+        = a (deeper-inside (rank (g .block)) m n) ∙ rw (in-version, frame, around) in
+        (z ∙ rw h, subst Ranked (sym (ap (λ t. t .blocks) z)) (shift-ranked g fs ranked m n (r .kind) (r .at) (b .name) (r .x) (o .version)))
+    in-state F.None h a = absurd (false≢true (rw h at takes-it))
+
+    pub record-written : (to : ℕ) (exit : List ℕ) → Put mid' (x .at) (statedIn s (x .«open» .depth) (frameOf s (x .«open» .inner)) r) to exit
+        → length outer' ≡ 25 → Enters s (x .«open») outer r (x .formed) q outer'
+        → Wrote s (blocksOf s o outer) (b ∷ []) out at (record { «open» = q; at = to }) outer' exit
+    record-written to exit w n a =
+        let z = in-state (x .formed) (d .formed) a in
+        let home = frameOf s (x .«open» .inner) in
+        let deep : Put mid' (x .at) (text (statement (length fs) home b (formIn home b))) to exit
+        = subst (λ n. Put mid' (x .at) (text (statement n home b (formIn home b))) to exit) depth w in
+        let stated : Put mid' (x .at) (text stating) to exit
+        = subst (λ h. Put mid' (x .at) (text (statement (length fs) h b (formIn h b))) to exit) frame deep in
+        record {
+          put = put-as (ap text (sym written))
+              (pieces-then (e .ended .ends) (before f (formIn f b) ++ stating) (e .ended .put)
+              (pieces-then (before f (formIn f b)) stating (d .put) stated));
+          state = z .0 ∙ sym goes-on;
+          stands = (n, z .1);
+        }

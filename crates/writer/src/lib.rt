@@ -10,18 +10,14 @@ ghost use Rattle.writer.specs.Told.{Answers, Tells, Reads};
 use crate::pen::Pen;
 use crate::pen::write_from;
 use crate::pen::write_last;
+use reader::open::State;
+use reader::open::spread;
 use reader::pass::Begun;
 use reader::pass::begin;
-use reader::state::State;
 use record::Record;
 use refusal::Refusal;
 
-mod block;
-mod line;
 mod pen;
-mod put;
-mod shape;
-mod statement;
 
 // The checker's refusal; else 12 with the bytes needed where the buffer is too small for the text; else the text from the front of
 // the buffer, with the count of its bytes as a `Refusal` of number 0. On every refusal the buffer keeps its bytes: the text is
@@ -59,13 +55,17 @@ fn write_held(text: &[u8], start: State, file: &[u8], out: &mut [u8]) -> Refusal
     ensures { λ r. ⌜ Tells (now (text .entry)) (now (out .entry)) r (now (out .exit)) ⌝ }
 {
     let count = file.len() / Record::SIZE;
-    let pen = Pen { st: start, at: 0 };
+    let around = start.outer;
+    let open = start.open;
+    let pen = Pen { open, at: 0 };
+    let mut outer = spread(around);
     let mut nowhere = [0u8; 0];
-    let n = write_last(text, pen, file, count, &mut nowhere);
+    let n = write_last(text, pen, &mut outer, file, count, &mut nowhere);
     if out.len() < n {
         return Refusal::text_room(n);
     }
-    write_last(text, pen, file, count, out);
+    let mut outer = spread(around);
+    write_last(text, pen, &mut outer, file, count, out);
     Refusal::done(n)
 }
 

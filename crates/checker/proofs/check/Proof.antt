@@ -5,7 +5,9 @@ use Rattle.checker.proofs.check.Statement.{statement}
 use Rattle.checker.proofs.check.Tie as tie
 
 check-from-requires : tie.Need-check-from-requires
-check-from-requires c κs = begun-at (c .before .before .before .before .before .before .args .text .now) _ (c .before .before .before .begin .ensures) _ (c .before .start .given .1)
+check-from-requires c κs =
+    let s = c .before .before .before .before .before .before in
+    begun-at (s .args .text .now) _ (c .before .before .before .begin .ensures) _ (c .before .start .given .1)
 
 returns : tie.Need-returns
 returns c = text-refused _ _ _ (begun-refused (c .before .before .before .before .before .before .args .text .now) _ (c .before .before .before .begin .ensures) _ (c .before .refusal .given .1))

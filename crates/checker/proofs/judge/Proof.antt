@@ -22,7 +22,8 @@ returns-2 c =
 
 by-windows-requires : tie.Need-by-windows-requires
 by-windows-requires c κs =
-    let z = c .before .before .before .before .pre in
+    let s = c .before .before .before .before in
+    let z = s .pre in
     (z .0, z .1)
 
 returns-3 : tie.Need-returns-3

@@ -17,7 +17,7 @@ returns-2 : tie.Need-returns-2
 returns-2 c =
     let left = c .before .before .before .before in
     let arm = left .before .before .before .before .before in
-    let clear = arm .before .before .before in
+    let clear = arm .before .before .before .before in
     let told = rw (c .before .before .before .done .ensures) at (c .tell2 .ensures) in
     let l = left .leave2 .ensures in
     rw (token-told _ _ _ (clear .before .before .screen .ensures) (clear .enum-told .given .1) _ (sym (arm .t .given .1) ∙ arm .before .before .token-from .ensures))
@@ -27,7 +27,7 @@ returns-3 : tie.Need-returns-3
 returns-3 c =
     let left = c .before .before .before in
     let arm = left .before .before .before .before .before in
-    let clear = arm .before .before .before in
+    let clear = arm .before .before .before .before in
     let told = c .tell3 .ensures in
     let l = left .leave3 .ensures in
     rw (refusal-told _ _ _ (clear .before .before .screen .ensures) (clear .enum-told .given .1) _ (sym (arm .refusal .given .1) ∙ arm .before .before .token-from .ensures))

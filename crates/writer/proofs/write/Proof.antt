@@ -5,7 +5,7 @@ use Rattle.writer.proofs.write.Statement.{statement}
 use Rattle.writer.proofs.write.Tie as tie
 
 write-checked-requires : tie.Need-write-checked-requires
-write-checked-requires c κs = rw (c .before .before .start .given .1) at (c .before .before .before .before .begin .ensures)
+write-checked-requires c κs = (rw (c .before .before .start .given .1) at (c .before .before .before .before .begin .ensures))
 
 returns : tie.Need-returns
 returns c = let a = c .before .before .before .before .before .before .before in begun-refused (a .args .text .now) (a .args .file .now) _ (rw (c .before .refusal .given .1) at (c .before .before .before .begin .ensures)) _

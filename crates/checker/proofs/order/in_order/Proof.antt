@@ -7,7 +7,7 @@ use Rattle.checker.proofs.order.in_order.Statement.{statement}
 use Rattle.checker.proofs.order.in_order.Tie as tie
 
 stretches-requires : tie.Need-stretches-requires
-stretches-requires c κs = room36 stretchBytes stretch 0 (omega arith)
+stretches-requires c κs = let s = c .before .before .before in (room36 stretchBytes stretch 0 (omega arith), s .pre)
 
 returns : tie.Need-returns
 returns c = c .before .stretches .ensures

@@ -7,7 +7,7 @@ use Rattle.checker.proofs.windows.by_windows.Statement.{statement}
 use Rattle.checker.proofs.windows.by_windows.Tie as tie
 
 windows-requires : tie.Need-windows-requires
-windows-requires c κs = (room36 widthBytes width 0 (omega arith), room width width 0 (omega arith), c .before .before .before .before .pre)
+windows-requires c κs = let s = c .before .before .before .before in (room36 widthBytes width 0 (omega arith), room width width 0 (omega arith), s .pre)
 
 returns : tie.Need-returns
 returns c = c .before .before .windows .ensures

@@ -39,6 +39,12 @@ seen-after-requires c κs =
 verdict-of-requires : tie.Need-verdict-of-requires Inv-loop μ-loop
 verdict-of-requires c κs = omega (arith, c .before .before .seen-after .ensures .0)
 
+at-of-requires : tie.Need-at-of-requires Inv-loop μ-loop
+at-of-requires c κs =
+    let l = c .before .before .before .before .before .before .before .before .loop in
+    let s = c .before .before .before .before .before .before .before .before .before .before .before .before .before in
+    omega (arith, s .pre .0, l .inv .1)
+
 seen-after-requires-2 : tie.Need-seen-after-requires-2 Inv-loop μ-loop
 seen-after-requires-2 c κs =
     let l = c .before .before .before .before .before .before .before .before .before .before .before .loop in
@@ -74,7 +80,7 @@ returns : tie.Need-returns Inv-loop μ-loop
 returns c =
     let l = c .before .before .before .before .before .before .before .loop in
     let s = c .before .before .before .before .before .before .before .before .before .before .before .before in
-    λ rs e. absurd (never-refused (l .inv .0) _ (went-wrong (s .args .text .now) (l .st) width (l .w) _ _ (c .before .before .before .before .before .pass .ensures) _ (c .before .refusal .given .1)))
+    λ rs e. absurd (never-refused (l .inv .0) _ (went-wrong (s .args .text .now) (l .st) width (l .w) _ _ (c .before .before .before .before .before .pass .ensures) _ _ (c .before .refusal .given .1)))
 
 returns-2 : tie.Need-returns-2 Inv-loop μ-loop
 returns-2 c =
@@ -87,6 +93,6 @@ returns-2 c =
 pub windows-spec : {M : Type 1} → statement M
 windows-spec =
     tie.close
-    (tie.spec Inv-loop μ-loop loop-holds (λ c κs. search needs) (λ c. search needs) (λ c. search needs) seen-after-requires
-    verdict-of-requires (λ c. search needs) (λ c. search needs) (λ c κs. search needs) seen-after-requires-2 loop-less loop-again
+    (tie.spec Inv-loop μ-loop loop-holds (λ c κs. c .before .loop .inv .0 .sound) (λ c. search needs) (λ c. search needs) seen-after-requires
+    verdict-of-requires (λ c. search needs) (λ c. search needs) at-of-requires seen-after-requires-2 loop-less loop-again
     (λ c. search needs) (λ c. search needs) returns (λ c. search needs) (λ c. search needs) returns-2)

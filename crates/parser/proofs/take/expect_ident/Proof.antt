@@ -8,7 +8,11 @@ unfolding expect-ident
 expect-ident-spec =
     tie.close
     (tie.spec (λ c κs. tt) (λ c. c .match .keys1) (λ c. c .match .keys2)
-    (λ c. simp (c .enum-told .given .1, ← (c .before .before .get-name .ensures)))
+    (λ c o h. simp (c .enum-told .given .1, ← (c .before .before .get-name .ensures _ o h)))
     (λ c κs. tt) (λ c κs. tt) (λ c κs. tt) (λ c κs. tt)
-    (λ c. simp (c .if1 .taken, ← (rw (c .before .before .name-in .ensures, c .before .before .before .txt .ensures) at (c .before .same-bytes .ensures)), c .before .before .before .before .before .answer .given .1, ← (c .before .before .before .before .before .before .before .get-name .ensures)))
-    (λ c. simp (c .complain .ensures, c .before .if1 .left, ← (rw (c .before .before .before .name-in .ensures, c .before .before .before .before .txt .ensures) at (c .before .before .same-bytes .ensures)), c .before .before .before .before .before .before .answer .given .1, ← (c .before .before .before .before .before .before .before .before .get-name .ensures))))
+    (λ c o h. let t = c .before .before .before in
+    let a = t .before .before .before in
+    simp (c .if1 .taken, ← (rw (c .before .before .name-in .ensures, t .txt .ensures) at (c .before .same-bytes .ensures)), a .answer .given .1, ← (a .before .before .get-name .ensures _ o h)))
+    (λ c o h. let t = c .before .before .before .before in
+    let a = t .before .before .before in
+    simp (c .complain .ensures, c .before .if1 .left, ← (rw (c .before .before .before .name-in .ensures, t .txt .ensures) at (c .before .before .same-bytes .ensures)), a .answer .given .1, ← (a .before .before .get-name .ensures _ o h))))

@@ -9,7 +9,7 @@ unfolding expect-key
 expect-key-spec =
     tie.close
     (tie.spec (λ c κs. tt) (λ c. c .match .keys1) (λ c. c .match .keys2)
-    (λ c. simp (c .enum-told .given .1, ← (c .before .before .get-key .ensures)))
+    (λ c o h. simp (c .enum-told .given .1, ← (c .before .before .get-key .ensures o h)))
     (λ c κs. tt)
-    (λ c. simp (eq-eqb _ _ (c .if1 .taken), c .before .before .answer .given .1, ← (c .before .before .before .before .get-key .ensures)))
-    (λ c. simp (c .complain .ensures, ne-eqb _ _ (c .before .if1 .left), c .before .before .before .answer .given .1, ← (c .before .before .before .before .before .get-key .ensures))))
+    (λ c o h. simp (eq-eqb _ _ (c .if1 .taken), c .before .before .answer .given .1, ← (c .before .before .before .before .get-key .ensures o h)))
+    (λ c o h. simp (c .complain .ensures, ne-eqb _ _ (c .before .if1 .left), c .before .before .before .answer .given .1, ← (c .before .before .before .before .before .get-key .ensures o h))))

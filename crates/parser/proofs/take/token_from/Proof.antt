@@ -8,6 +8,6 @@ token-from-spec =
     tie.close
     (tie.spec
     (λ c κs. tt) (λ c. c .match .keys1) (λ c. c .match .keys2) (λ c. search needs) (λ c κs. tt)
-    (λ c. rw (← c .before .before .before .lex .ensures, c .before .t .given .1))
-    (λ c. rw (← c .before .before .before .lex .ensures, c .before .last .given .1))
-    (λ c. rw (← c .before .before .before .before .lex .ensures, c .before .before .bad .given .1, c .no-token .ensures)))
+    (λ c. rw (← c .before .before .before .lex-in .ensures, c .before .t .given .1))
+    (λ c. rw (← c .before .before .before .lex-in .ensures, c .before .last .given .1))
+    (λ c. rw (← c .before .before .before .before .lex-in .ensures, c .before .before .bad .given .1, c .no-token .ensures)))

@@ -13,6 +13,6 @@ begin-spec =
     (λ c. search needs) (λ c κs. tt) (λ c. search needs) (λ c. search needs) (λ c κs. tt)
     (λ c. let h = c .before .enum-told2 .given .1 in
     rw (c .taken-refusal .ensures, h)
-    (fails _ _ (c .before .before .before .before .before .before .screen .ensures) (c .before .before .before .before .enum-told .given .1) _ (c .before .before .before .token-from .ensures) _ h))
+    (fails _ _ (c .before .before .before .before .before .before .before .screen .ensures) (c .before .before .before .before .before .enum-told .given .1) _ (c .before .before .before .token-from .ensures) _ h))
     (λ c κs. tt)
-    (λ c. begins _ _ (c .before .before .before .before .before .before .before .screen .ensures) (c .before .before .before .before .before .enum-told .given .1) _ (c .before .before .before .before .token-from .ensures) _ (c .before .before .first .given .1) (c .start .result) (c .start .ensures)))
+    (λ c. begins _ _ (c .before .before .before .before .before .before .before .before .screen .ensures) (c .before .before .before .before .before .before .enum-told .given .1) _ (c .before .before .before .before .token-from .ensures) _ (c .before .before .first .given .1) (c .first2 .result) (c .first2 .ensures)))

@@ -8,7 +8,7 @@ pub read-spec : {M : Type 1} → statement M
 read-spec =
     tie.close
     (tie.spec (λ c κs. tt) (λ c. search needs) (λ c. search needs)
-    (λ c κs. (rw (c .before .before .start .given .1) at (c .before .before .before .before .begin .ensures)) .1)
+    (λ c κs. let b = rw (c .before .before .start .given .1) at (c .before .before .before .before .begin .ensures) in (b .1, b .3))
     (λ c. by-refusal _ _ (rw (c .before .refusal .given .1) at (c .before .before .before .begin .ensures)))
     (λ c. search needs)
     (λ c. let b = rw (c .before .before .before .before .before .start .given .1) at (c .before .before .before .before .before .before .before .begin .ensures) in

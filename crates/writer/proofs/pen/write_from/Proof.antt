@@ -7,7 +7,7 @@ use Rattle.writer.proofs.pen.write_from.Statement.{statement}
 use Rattle.writer.proofs.pen.write_from.Tie as tie
 
 write-stretches-requires : tie.Need-write-stretches-requires
-write-stretches-requires c κs = (room36 stretchBytes stretch 0 (omega arith), c .before .before .before .before .pre)
+write-stretches-requires c κs = let s = c .before .before .before .before in (room36 stretchBytes stretch 0 (omega arith), s .pre)
 
 same-length : tie.Need-same-length
 same-length c = search needs

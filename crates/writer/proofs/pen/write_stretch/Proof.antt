@@ -4,7 +4,7 @@ use native.Mathlib.Omega.{arith}
 use mathlib.Core.List.{map}
 use borrow.Author.Needs.{needs}
 use Rattle.file.specs.File.{front}
-use Rattle.reader.specs.Open.{stateOf}
+use Rattle.reader.specs.Open.{blocksOf}
 use Rattle.render.specs.Plain.{bare}
 use Rattle.writer.specs.Penned.{Wrote}
 use Rattle.writer.proofs.Stretching.{the-record, never-past, wrote-none, next-admitted, wrote-next, wrote-all}
@@ -12,15 +12,17 @@ use Rattle.writer.proofs.pen.write_stretch.Statement.{statement}
 use Rattle.writer.proofs.pen.write_stretch.Tie as tie
 
 abbrev Inv-loop : tie.InvT-loop
-Inv-loop text w c out₀ p₀ k₀ out p k = (k ≤ c) × Wrote text (stateOf text (p₀ .st)) (map (bare text) (front k w)) out₀ (p₀ .at) p out
+Inv-loop text outer₀ w c out₀ p₀ k₀ outer out p k =
+    (k ≤ c) × Wrote text (blocksOf text (p₀ .«open») outer₀) (map (bare text) (front k w)) out₀ (p₀ .at) p outer out
 
 abbrev μ-loop : tie.MeasureT-loop
-μ-loop text w c out₀ p₀ k₀ out p k = c - k
+μ-loop text outer₀ w c out₀ p₀ k₀ outer out p k = c - k
 
 loop-holds : tie.Need-loop-holds Inv-loop μ-loop
 loop-holds c =
-    let a = c .before .before .before .args in
-    (omega arith, wrote-none (a .text .now) (a .w .now) (a .pen) _ (omega arith))
+    let s = c .before .before .before in
+    let a = s .args in
+    (omega arith, wrote-none (a .text .now) (a .w .now) (a .pen) _ _ (omega arith) (s .pre .1))
 
 same-length : tie.Need-same-length Inv-loop μ-loop
 same-length c = c .before .before .before .before .loop .inv .1 .put .room
@@ -28,24 +30,29 @@ same-length c = c .before .before .before .before .loop .inv .1 .put .room
 returns : tie.Need-returns Inv-loop μ-loop
 returns c =
     let l = c .before .before .before .before .loop in
-    absurd (never-past (c .before .before .before .before .before .before .before .before .args .w .now) (l .k) (omega (arith, c .before .before .before .before .before .before .before .before .pre .0, c .before .before .before .loop-test .taken)) _ (c .before .before .read .ensures) (c .enum-told .given .1))
+    let s = c .before .before .before .before .before .before .before .before in
+    absurd (never-past (s .args .w .now) (l .k) (omega (arith, s .pre .0, c .before .before .before .loop-test .taken)) _ (c .before .before .read .ensures) (c .enum-told .given .1))
 
 write-record-requires : tie.Need-write-record-requires Inv-loop μ-loop
 write-record-requires c κs =
-    let l = c .before .before .before .before .before .before .before .loop in
-    let a = c .before .before .before .before .before .before .before .before .before .before .before .args in
-    let r = the-record (a .w .now) (l .k) (omega (arith, c .before .before .before .before .before .before .before .before .before .before .before .pre .0, c .before .before .before .before .before .before .loop-test .taken)) _ (c .before .before .before .before .before .read .ensures) _ (c .before .before .before .r .given .1) in
-    next-admitted (a .text .now) (a .w .now) _ (l .k) _ _ (l .p) _ (l .inv .1) _ r (a .c) (c .before .before .before .before .before .before .loop-test .taken) (c .before .before .before .before .before .before .before .before .before .before .before .pre .1)
+    let l = c .before .before .before .before .before .before .before .before .loop in
+    let s = c .before .before .before .before .before .before .before .before .before .before .before .before in
+    let a = s .args in
+    let r = the-record (a .w .now) (l .k) (omega (arith, s .pre .0, c .before .before .before .before .before .before .before .loop-test .taken)) _ (c .before .before .before .before .before .before .read .ensures) _ (c .before .before .before .before .r .given .1) in
+    (l .inv .1 .stands, next-admitted (a .text .now) (a .w .now) _ (l .k) _ _ (l .p) _ _ (l .inv .1) _ r (a .c) (c .before .before .before .before .before .before .before .loop-test .taken) (s .pre .2))
 
 add-k : tie.Need-add-k Inv-loop μ-loop
-add-k c = omega (arith, c .before .before .before .before .before .before .before .before .before .loop-test .taken, c .before .before .before .before .before .before .before .before .before .before .before .before .before .before .pre .0, c .before .before .before .before .before .before .before .before .before .before .before .before .before .before .good .1 .1 .0 .0)
+add-k c =
+    let s = c .before .before .before .before .before .before .before .before .before .before .before .before .before .before .before in
+    omega (arith, c .before .before .before .before .before .before .before .before .before .before .loop-test .taken, s .pre .0, s .good .1 .1 .1 .0 .0)
 
 loop-again : tie.Need-loop-again Inv-loop μ-loop
 loop-again c =
-    let l = c .before .before .before .before .before .before .before .before .before .before .loop in
-    let a = c .before .before .before .before .before .before .before .before .before .before .before .before .before .before .args in
-    let r = the-record (a .w .now) (l .k) (omega (arith, c .before .before .before .before .before .before .before .before .before .before .before .before .before .before .pre .0, c .before .before .before .before .before .before .before .before .before .loop-test .taken)) _ (c .before .before .before .before .before .before .before .before .read .ensures) _ (c .before .before .before .before .before .before .r .given .1) in
-    (omega (arith, c .before .before .before .before .before .before .before .before .before .loop-test .taken), wrote-next (a .text .now) (a .w .now) _ (l .k) _ _ (l .p) _ (l .inv .1) _ r _ _ (c .before .before .write-record .ensures))
+    let l = c .before .before .before .before .before .before .before .before .before .before .before .loop in
+    let s = c .before .before .before .before .before .before .before .before .before .before .before .before .before .before .before in
+    let a = s .args in
+    let r = the-record (a .w .now) (l .k) (omega (arith, s .pre .0, c .before .before .before .before .before .before .before .before .before .before .loop-test .taken)) _ (c .before .before .before .before .before .before .before .before .before .read .ensures) _ (c .before .before .before .before .before .before .before .r .given .1) in
+    (omega (arith, c .before .before .before .before .before .before .before .before .before .before .loop-test .taken), wrote-next (a .text .now) (a .w .now) _ (l .k) _ _ (l .p) _ _ (l .inv .1) _ r _ _ _ (c .before .before .write-record .ensures))
 
 same-length-2 : tie.Need-same-length-2 Inv-loop μ-loop
 same-length-2 c = c .before .loop .inv .1 .put .room

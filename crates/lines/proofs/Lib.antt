@@ -1,0 +1,12 @@
+pub mod Laws
+pub mod Copied
+pub mod Numbers
+pub mod Tokens
+pub mod Pieced
+pub mod Spelt
+pub mod Items
+pub mod Rows
+pub mod Blocks
+pub mod Fitted
+pub mod Stated
+pub mod Ends

@@ -1,0 +1,4 @@
+pub mod Put
+pub mod Formed
+pub mod Stated
+pub mod Said

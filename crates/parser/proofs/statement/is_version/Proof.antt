@@ -1,8 +1,0 @@
--- `parser::statement::is_version` meets its contract: the code compares with each of the numbers in turn.
-use Rattle.grammar.specs.Table.{versions}
-use Rattle.parser.proofs.Items.{in-turn}
-use Rattle.parser.proofs.statement.is_version.Statement.{statement}
-use Rattle.parser.proofs.statement.is_version.Tie as tie
-
-pub is-version-spec : {M : Type 1} → statement M
-is-version-spec = tie.close (tie.spec (λ c. in-turn versions _))

@@ -1,0 +1,13 @@
+-- `parser::value::to_second` meets its contract: the code of the value, by the kind of the record and the first word.
+use Rattle.grammar.specs.Engine.{item}
+use Rattle.parser.proofs.value.to_second.Statement.{statement}
+use Rattle.parser.proofs.value.to_second.Tie as tie
+
+pub to-second-spec : {M : Type 1} → statement M
+unfolding item
+to-second-spec =
+    tie.close
+    (tie.spec
+    (λ c κs. tt) (λ c. c .match .keys1) (λ c. c .match .keys2) (λ c κs. tt)
+    (λ c f b e. rw (c .word-refusal .ensures, e, ← (c .before .before .before .parse-second .ensures), c .before .enum-told .given .1))
+    (λ c f b e. rw (e, ← (c .before .before .before .parse-second .ensures), c .before .a .given .1)))
