@@ -1,6 +1,6 @@
 -- Inner machinery, which nobody has to believe: what the code's sketch of a record stands for.
--- The image `asDrafted` forgets nothing of an answer. `shown` keeps of a draft what a record file and a block's name have of it, which is all
--- that a step makes of it.
+-- The image `asDrafted` forgets of an answer only what a name's length says beyond the text's end. `shown` keeps of a draft what a record file
+-- and a block's name have of it, which is all that a step makes of it.
 use Prim.Native.Nat.{ℕ, _+_}
 use Prim.Native.String.{String}
 use mathlib.Core.Path.{_≡_}
