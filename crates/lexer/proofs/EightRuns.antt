@@ -86,11 +86,14 @@ module _ (p : ℕ → Bool) (s : List ℕ) (i w m : ℕ) (h : Packed (take 8 (dr
       ∙ ap (λ k. trailingZeros (k * 8) (each (mark p) (take 8 (drop i s))) / 8) (sym (h .long))
       ∙ first-mark p (take 8 (drop i s)) ∙ front p 8 (drop i s)
 
-  -- the first mark is where the run ends
-  pub here : (m ≡ 0 → ⊥) → i + trailingZeros 64 m / 8 ≡ past p s i
-  here n =
+  -- a mark stands on one of the eight bytes, and the first is where the run ends
+  pub few : (m ≡ 0 → ⊥) → trailingZeros 64 m / 8 ≤ 7
+  few n =
       let inside : run p (take 8 (drop i s)) ≡ 8 → ⊥ = λ q. n (e _ h ∙ clear p (take 8 (drop i s)) (q ∙ sym (h .long))) in
       omega (arith, before, front p 8 (drop i s))
+
+  pub here : (m ≡ 0 → ⊥) → i + trailingZeros 64 m / 8 ≡ past p s i
+  here n = omega (arith, before, few n)
 
   -- without a mark the run goes on behind the eight bytes
   pub beyond : m ≡ 0 → past p s (i + 8) ≡ past p s i

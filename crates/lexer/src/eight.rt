@@ -126,3 +126,12 @@ pub fn blanks_past(text: &[u8], at: usize) -> usize
     }
     i
 }
+
+// A place at most seven bytes behind `at` up to which there are only blanks: behind them, or `at` where eight or more come next.
+pub fn near_blanks(text: &[u8], at: usize) -> usize
+    requires { ⌜ at + 7 < length (now text) ⌝ }
+    ensures { λ r. ⌜ (at ≤ r) × (r ≤ at + 7) × (past isBlank (now (text .entry)) r ≡ past isBlank (now (text .entry)) at) ⌝ }
+{
+    let ends = blank_ends(eight(text, at));
+    if ends == 0 { at } else { at + before(ends) }
+}

@@ -58,8 +58,8 @@ pub enum Answer {
 // The longest text that the library reads.
 const LIMIT: usize = 16777216;
 
-// How many bytes `lex_near` looks at: a space, a first byte, and eight after it.
-const NEAR: usize = 10;
+// How many bytes `lex_near` looks at: a space or a newline, up to seven blanks, a first byte, and eight after it.
+const NEAR: usize = 17;
 
 // The largest line number.
 const LAST_LINE: usize = 18446744073709551615;
@@ -132,28 +132,37 @@ pub fn lex_in(lent: &&[u8], at: usize, line: usize) -> Lexed
     }
 }
 
-// The same, where mostly a space and then a short token come next: that is found at once, and all else by the way of `lex_in`.
+// The same, where mostly a space, or a newline and a few blanks, and then a short token come next: that is found at once, and all
+// else by the way of `lex_in`.
 pub fn lex_near(lent: &&[u8], at: usize, line: usize) -> Lexed
     ensures { λ r. ⌜ r ≡ lexFrom (now (now (lent .entry))) at line ⌝ }
 {
     let text = *lent;
     let end = scan::size(text);
-    if at < end && NEAR <= end - at && text[at] == b' ' {
-        let i = at + 1;
-        let b = text[i];
-        let w = eight::eight(text, at + 2);
-        if scan::is_letter(b) {
-            let ends = eight::name_ends(w);
-            if ends != 0 {
-                return emit(Token::NAME, i, at + 2 + eight::before(ends), line);
+    if at < end && NEAR <= end - at {
+        let mut i = at + 1;
+        let mut n = line;
+        let c = text[at];
+        if c == b'\n' {
+            i = eight::near_blanks(text, at + 1);
+            n = lex_newline(line);
+        }
+        if (c == b' ') | (c == b'\n') {
+            let b = text[i];
+            let w = eight::eight(text, i + 1);
+            if scan::is_letter(b) {
+                let ends = eight::name_ends(w);
+                if ends != 0 {
+                    return emit(Token::NAME, i, i + 1 + eight::before(ends), n);
+                }
+            } else if scan::is_digit(b) {
+                let ends = eight::number_ends(w);
+                if ends != 0 {
+                    return emit(Token::NUMBER, i, i + 1 + eight::before(ends), n);
+                }
+            } else if b == b';' {
+                return emit(Token::SEMICOLON, i, i + 1, n);
             }
-        } else if scan::is_digit(b) {
-            let ends = eight::number_ends(w);
-            if ends != 0 {
-                return emit(Token::NUMBER, i, at + 2 + eight::before(ends), line);
-            }
-        } else if b == b';' {
-            return emit(Token::SEMICOLON, i, at + 2, line);
         }
     }
     lex_in(lent, at, line)
