@@ -9,7 +9,7 @@ use lib.Dec.{leb, eqb}
 use Rattle.lexer.specs.Kinds as Kind
 use Rattle.record.specs.Kinds.{VERSION, VIA}
 use Rattle.word.specs.Words.{wordOf, word}
-use Rattle.word.specs.Codes.{codeOf, valuesOf, placeOf}
+use Rattle.word.specs.Codes.{kindValues, codeOf, valuesOf, placeOf}
 use Rattle.word.proofs.Words.{both}
 use Rattle.grammar.specs.Tokens.{Ahead, ok, then, complain, matches}
 use Rattle.grammar.specs.Engine.{get-name, get-key, expect-key, parse-enum, begins, parse-second}
@@ -171,7 +171,7 @@ allows-small (r ∷ rs) k c s e = let h = both (leb (r .greatest) 255) (small rs
 
 -- a kind and a code that are listed are bytes
 pub listed-fits : (k c : ℕ) → listed k c ≡ true → (1 ≤ k) × (k < 256) × (c < 256)
-unfolding listed small kindCodes
+unfolding listed small kindCodes kindValues
 listed-fits k c e =
     let h = both (leb VERSION k && leb k VIA) (allows kindCodes k c) e in
     let b = both (leb VERSION k) (leb k VIA) (h .0) in

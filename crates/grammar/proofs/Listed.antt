@@ -15,7 +15,7 @@ use Rattle.numeral.specs.Stored.{storedOf}
 use Rattle.numeral.proofs.Good.{good}
 use Rattle.record.specs.declared.Record.{Record}
 use Rattle.word.specs.Words.{keys, values, words, raised, upper, same, firstWhere, wordOf, word}
-use Rattle.word.specs.Codes.{onOff, siteClasses, symmetries, macroClasses, directions, uses, shapes, antennaModels, antennaKeys, portClasses, layerOptions, valuesOf, placeOf, codeOf}
+use Rattle.word.specs.Codes.{kindValues, valuesIn, valuesOf, placeOf, codeOf}
 use Rattle.word.proofs.Words.{both}
 use Rattle.grammar.specs.Tokens.{Ahead, Answer, ok, then, complain, matches, expect}
 use Rattle.grammar.specs.Grammar.{Block, Item, key, keyword, name, own, x, y, semi, value, first, firstKey, second, string, code, ifMore, noName, among, whole}
@@ -115,7 +115,7 @@ unfoldable fit : ℕ → List Item → Bool
 fit k is = settles k 0 (stage (listed k 0)) is
 
 all-fit : (b : Block) → fit-body fit (body b) ≡ true
-unfolding fit-body fit-rows fit-act all-numbered numbered eager takes fit settles skip after closed valuable pairs keyed-seconds goes listed kindCodes allows keys values words raised upper same firstWhere wordOf onOff siteClasses symmetries macroClasses directions uses shapes antennaModels antennaKeys portClasses layerOptions valuesOf placeOf codeOf goesOn
+unfolding fit-body fit-rows fit-act all-numbered numbered eager takes fit settles skip after closed valuable pairs keyed-seconds goes listed kindCodes allows keys values words raised upper same firstWhere wordOf kindValues valuesIn valuesOf placeOf codeOf goesOn
 all-fit = at-block (fit-body fit) refl
 
 pub passed-either : {A M : Type 0} (i : Item) (a : Ahead A M) (Q : ℕ → Type 0) → Q 0 → Q (skip i) → Q (passed i a)

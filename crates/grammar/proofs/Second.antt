@@ -5,10 +5,10 @@ use mathlib.Core.Path.{_≡_, refl, sym}
 use mathlib.Core.Bool.{Bool, true, false, cond, not, _&&_, _||_, and-true, and-false}
 use mathlib.Core.List.{List, [], _∷_}
 use lib.Dec.{eqb}
-use borrow.Author.Tests.{ne-eqb, eqb-true, eqb-false}
-use Rattle.record.specs.Kinds.{MACRO-CLASS, DIRECTION, NAMESCASESENSITIVE, NOWIREEXTENSIONATPIN, SITE-CLASS, SYMMETRY-WORD, USE, SHAPE, ANTENNAMODEL, ANTENNA, PORT-CLASS, LAYER-OPTION}
+use borrow.Author.Tests.{ne-eqb, eqb-true}
+use Rattle.record.specs.Kinds.{MACRO-CLASS, DIRECTION}
 use Rattle.word.specs.Words.{keys, values, words, raised, upper, same, firstWhere, wordOf, word}
-use Rattle.word.specs.Codes.{onOff, siteClasses, symmetries, macroClasses, directions, uses, shapes, antennaModels, antennaKeys, portClasses, layerOptions, valuesOf, placeOf, codeOf}
+use Rattle.word.specs.Codes.{Valued, kindValues, numbers, valuesIn, valuesOf, placeOf, codeOf}
 use Rattle.word.proofs.Words.{both}
 use Rattle.grammar.specs.Tokens.{Ahead}
 use Rattle.grammar.specs.Follows.{Follow, nothing, optional, required, optionalKey, First, classFirsts, directionFirsts, firstsOf, followIn}
@@ -92,47 +92,51 @@ module _ (w : ℕ) where
       go true i p f = rw (← eqb-true (word (r .begin)) w i) p
       go false i p f = f (λ z. n (rw i z))
 
-  either : (b : Bool) (l m : List ℕ) → all-led [] l ≡ true → goesOn m w ≡ false → goesOn (cond b l m) w ≡ false
-  unfolding led
-  either true l m p q = unled [] l p refl
-  either false l m p q = q
+-- in a table of values, each value of two words begins with a first word of its kind
+unfoldable table-led : List Valued → Bool
+table-led [] = true
+table-led (r ∷ rs) = all-led (firstsOf (r .kind)) (numbers (r .values)) && table-led rs
 
-  -- only classes of macros and directions have values of two words
-  pub no-second : (kind : ℕ) → (kind ≡ MACRO-CLASS → ⊥) → (kind ≡ DIRECTION → ⊥) → false ≡ goesOn (valuesOf kind) w
-  unfolding led all-led valuesOf onOff siteClasses symmetries uses shapes antennaModels antennaKeys portClasses layerOptions goesOn
-  no-second kind m n = rw (ne-eqb kind MACRO-CLASS m, ne-eqb kind DIRECTION n)
-      (sym
-      (either (eqb kind NAMESCASESENSITIVE) onOff _ refl
-      (either (eqb kind NOWIREEXTENSIONATPIN) onOff _ refl
-      (either (eqb kind SITE-CLASS) siteClasses _ refl
-      (either (eqb kind SYMMETRY-WORD) symmetries _ refl
-      (either (eqb kind USE) uses _ refl
-      (either (eqb kind SHAPE) shapes _ refl
-      (either (eqb kind ANTENNAMODEL) antennaModels _ refl
-      (either (eqb kind ANTENNA) antennaKeys _ refl
-      (either (eqb kind PORT-CLASS) portClasses _ refl
-      (either (eqb kind LAYER-OPTION) layerOptions _ refl
-      refl)))))))))))
+led-in : (rs : List Valued) (k : ℕ) → table-led rs ≡ true → all-led (firstsOf k) (valuesIn rs k) ≡ true
+unfolding table-led valuesIn all-led
+led-in [] k e = refl
+led-in (r ∷ rs) k e =
+    let (p, q) = both (all-led (firstsOf (r .kind)) (numbers (r .values))) (table-led rs) e in
+    go (eqb k (r .kind)) refl p (led-in rs k q)
+  where
+    go : (c : Bool) → eqb k (r .kind) ≡ c → all-led (firstsOf (r .kind)) (numbers (r .values)) ≡ true → all-led (firstsOf k) (valuesIn rs k) ≡ true
+        → all-led (firstsOf k) (cond c (numbers (r .values)) (valuesIn rs k)) ≡ true
+    go true i p h = rw (eqb-true k (r .kind) i) p
+    go false i p h = h
 
-  class-agrees : agrees MACRO-CLASS w (followIn classFirsts w) ≡ true
-  unfolding keys values words raised upper same firstWhere wordOf macroClasses valuesOf placeOf codeOf goesOn agrees all-agree led all-led
-  class-agrees = in-rows MACRO-CLASS classFirsts refl (unled classFirsts macroClasses refl)
+values-led : (k : ℕ) → all-led (firstsOf k) (valuesOf k) ≡ true
+unfolding keys values words raised upper same firstWhere wordOf kindValues valuesOf table-led led all-led
+values-led k = led-in kindValues k refl
 
-  direction-agrees : agrees DIRECTION w (followIn directionFirsts w) ≡ true
-  unfolding keys values words raised upper same firstWhere wordOf directions valuesOf placeOf codeOf goesOn agrees all-agree led all-led
-  direction-agrees = in-rows DIRECTION directionFirsts refl (unled directionFirsts directions refl)
+-- only classes of macros and directions have values of two words
+pub no-second : (w kind : ℕ) → (kind ≡ MACRO-CLASS → ⊥) → (kind ≡ DIRECTION → ⊥) → false ≡ goesOn (valuesOf kind) w
+unfolding led
+no-second w kind m n = sym (unled w [] (valuesOf kind) (rw (ne-eqb kind MACRO-CLASS m, ne-eqb kind DIRECTION n) at (values-led kind)) refl)
 
-  follow-agrees : (k : ℕ) → agrees k w (followIn (firstsOf k) w) ≡ true
-  unfolding agrees
-  follow-agrees k = go (eqb k MACRO-CLASS) (eqb k DIRECTION) refl refl
-    where
-      go : (c d : Bool) → eqb k MACRO-CLASS ≡ c → eqb k DIRECTION ≡ d → agrees k w (followIn (cond c classFirsts (cond d directionFirsts [])) w) ≡ true
-      go true d p q = rw (eqb-true k MACRO-CLASS p) class-agrees
-      go false true p q = rw (eqb-true k DIRECTION q) direction-agrees
-      go false false p q = rw (← no-second k (eqb-false k MACRO-CLASS p) (eqb-false k DIRECTION q))
+class-agrees : all-agree MACRO-CLASS classFirsts ≡ true
+unfolding keys values words raised upper same firstWhere wordOf kindValues valuesIn valuesOf placeOf codeOf goesOn agrees all-agree
+class-agrees = refl
+
+direction-agrees : all-agree DIRECTION directionFirsts ≡ true
+unfolding keys values words raised upper same firstWhere wordOf kindValues valuesIn valuesOf placeOf codeOf goesOn agrees all-agree
+direction-agrees = refl
+
+firsts-agree : (k : ℕ) → all-agree k (firstsOf k) ≡ true
+unfolding all-agree
+firsts-agree k = go (eqb k MACRO-CLASS) (eqb k DIRECTION) refl refl
+  where
+    go : (c d : Bool) → eqb k MACRO-CLASS ≡ c → eqb k DIRECTION ≡ d → all-agree k (cond c classFirsts (cond d directionFirsts [])) ≡ true
+    go true d p q = rw (eqb-true k MACRO-CLASS p) class-agrees
+    go false true p q = rw (eqb-true k DIRECTION q) direction-agrees
+    go false false p q = refl
 
 -- THE SECOND WORD
 
 pub second-is-listed : {A M : Type 0} (k w : ℕ) (a : Ahead A M) → parse-second k w a ≡ second-listed k w a
 unfolding parse-second
-second-is-listed k w a = row-listed k w a (followIn (firstsOf k) w) (follow-agrees w k)
+second-is-listed k w a = row-listed k w a (followIn (firstsOf k) w) (in-rows w k (firstsOf k) (firsts-agree k) (unled w (firstsOf k) (valuesOf k) (values-led k)))

@@ -5,7 +5,7 @@ use mathlib.Core.Bool.{Bool, true, not, _&&_}
 use mathlib.Core.List.{List, [], _∷_, _++_}
 use lib.Dec.{eqb}
 use Rattle.word.specs.Words.{keys, values, words, raised, upper, same, firstWhere, wordOf, word}
-use Rattle.word.specs.Codes.{Value, one, two, allValues}
+use Rattle.word.specs.Codes.{Value, one, two, kindValues, allValues}
 use Rattle.grammar.specs.Grammar.{Block, blocks, Item, key, keyword, name, own, x, y, semi, value, first, firstKey, second, string, code, ifMore, noName, among, whole, Act, statement, close, refuse, back, upTo54, Row, Body, keyed, worded, options, parts, counted}
 use Rattle.grammar.specs.Table.{body}
 use Rattle.grammar.specs.Follows.{Follow, nothing, optional, required, optionalKey, First, classFirsts, directionFirsts}
@@ -79,5 +79,5 @@ known [] = true
 known (w ∷ ws) = not (eqb (word w) 0) && known ws
 
 pub all-known : known (ofBlocks blocks ++ ofValues allValues ++ ofFirsts (classFirsts ++ directionFirsts)) ≡ true
-unfolding keys values words raised upper same firstWhere wordOf
+unfolding keys values words raised upper same firstWhere wordOf kindValues
 all-known = refl

@@ -9,7 +9,7 @@ use Rattle.lexer.specs.Run.{run}
 use Rattle.lexer.specs.Lex.{answers, from, firstAnswer}
 use Rattle.lexer.specs.Screen.{screened}
 use Rattle.word.specs.Words.{keys, values, words, raised, upper, same, firstWhere, wordOf, isKey}
-use Rattle.word.specs.Codes.{onOff, siteClasses, symmetries, macroClasses, directions, uses, shapes, antennaModels, antennaKeys, portClasses, layerOptions, valuesOf, placeOf, codeOf}
+use Rattle.word.specs.Codes.{kindValues, valuesIn, valuesOf, placeOf, codeOf}
 use Rattle.grammar.specs.Tokens.{next, expect}
 use Rattle.grammar.specs.Engine.{get-key, expect-key, expect-keyword, expect-ident, parse-number, parse-enum, begins, parse-second, empty, member, item, items}
 use Rattle.grammar.specs.Turns.{without, actFor, perform, peek-key, step, turn, turns}
@@ -23,11 +23,11 @@ pub record Worked : Type 0 where
   pub no-token : reading (bytes "UNITS\n@") ≡ refusal-of (refusal 3 6 2)
 
 pub worked : Worked
-unfolding classOf run answers from firstAnswer screened keys values words raised upper same firstWhere wordOf isKey onOff siteClasses symmetries macroClasses directions uses shapes antennaModels antennaKeys portClasses layerOptions valuesOf placeOf codeOf next expect get-key expect-key expect-keyword expect-ident parse-number parse-enum begins parse-second empty member item items without actFor perform peek-key step turn turns readAhead reading
+unfolding classOf run answers from firstAnswer screened keys values words raised upper same firstWhere wordOf isKey kindValues valuesIn valuesOf placeOf codeOf next expect get-key expect-key expect-keyword expect-ident parse-number parse-enum begins parse-second empty member item items without actFor perform peek-key step turn turns readAhead reading
 worked = record { two-bytes = refl; no-version = refl; no-size = refl; no-token = refl }
 
 -- the site of the listing
 pub listed : reading (bytes "SITE s\nCLASS CORE ;\nSIZE 1.5 BY 2 ;\nEND s\nEND LIBRARY\n")
     ≡ records (made 8 0 0 library 5 1 0 0 ∷ made 9 2 7 0 0 0 0 0 ∷ made 12 0 20 0 0 0 1500000 2000000 ∷ [])
-unfolding classOf run answers from firstAnswer screened keys values words raised upper same firstWhere wordOf isKey onOff siteClasses symmetries macroClasses directions uses shapes antennaModels antennaKeys portClasses layerOptions valuesOf placeOf codeOf next expect get-key expect-key expect-keyword expect-ident parse-number parse-enum begins parse-second empty member item items without actFor perform peek-key step turn turns readAhead reading
+unfolding classOf run answers from firstAnswer screened keys values words raised upper same firstWhere wordOf isKey kindValues valuesIn valuesOf placeOf codeOf next expect get-key expect-key expect-keyword expect-ident parse-number parse-enum begins parse-second empty member item items without actFor perform peek-key step turn turns readAhead reading
 listed = refl

@@ -2,9 +2,11 @@
 use Prim.Native.Nat.{ℕ}
 use mathlib.Core.Path.{_≡_}
 use mathlib.Core.Bool.{Bool, cond, _&&_}
-use mathlib.Core.List.{List, [], _∷_}
+use mathlib.Core.List.{List, [], _∷_, map}
 use lib.Dec.{leb, eqb}
-use Rattle.record.specs.Kinds.{VERSION, NAMESCASESENSITIVE, NOWIREEXTENSIONATPIN, SITE-CLASS, SYMMETRY-WORD, MACRO-CLASS, FOREIGN, DIRECTION, USE, SHAPE, ANTENNAMODEL, ANTENNA, PORT-CLASS, LAYER-OPTION, VIA}
+use lib.ListN.{length}
+use Rattle.record.specs.Kinds.{VERSION, FOREIGN, VIA}
+use Rattle.word.specs.Codes.{kindValues}
 use Rattle.numeral.specs.declared.Value.the-variants.{Scaled}
 use Rattle.numeral.specs.Numeral.{Good}
 use Rattle.numeral.specs.Stored.{storedOf}
@@ -18,23 +20,10 @@ pub record Codes : Type 0 where
 abbrev codes : ℕ → ℕ → ℕ → Codes
 codes k l g = record { kind = k; least = l; greatest = g }
 
--- The kinds that have codes: from 1 on, one for each value that the rules list. A FOREIGN has 1 where a point follows, else 0.
+-- The kinds that have codes. A FOREIGN has 1 where a point follows, else 0; a kind of the table of values has one code for each of its
+-- values, from 1 on.
 unfoldable pub kindCodes : List Codes
-kindCodes =
-    codes NAMESCASESENSITIVE 1 2
-    ∷ codes NOWIREEXTENSIONATPIN 1 2
-    ∷ codes SITE-CLASS 1 2
-    ∷ codes SYMMETRY-WORD 1 3
-    ∷ codes MACRO-CLASS 1 26
-    ∷ codes FOREIGN 0 1
-    ∷ codes DIRECTION 1 5
-    ∷ codes USE 1 5
-    ∷ codes SHAPE 1 3
-    ∷ codes ANTENNAMODEL 1 4
-    ∷ codes ANTENNA 1 9
-    ∷ codes PORT-CLASS 1 3
-    ∷ codes LAYER-OPTION 1 3
-    ∷ []
+kindCodes = codes FOREIGN 0 1 ∷ map (λ r. codes (r .kind) 1 (length (r .values))) kindValues
 
 -- does the kind have the code? A kind that the table lacks has 0 alone.
 unfoldable pub allows : List Codes → ℕ → ℕ → Bool

@@ -1,7 +1,7 @@
 -- The rows of each block pass the test, which is computed.
 use mathlib.Core.Path.{refl}
 use Rattle.word.specs.Words.{keys, values, words, raised, upper, same, firstWhere, wordOf}
-use Rattle.word.specs.Codes.{antennaKeys, layerOptions, valuesOf}
+use Rattle.word.specs.Codes.{kindValues, valuesIn, valuesOf}
 use Rattle.word.specs.Spelling.{firstOf}
 use Rattle.grammar.specs.Grammar.{Block, Library, Units, Site, Symmetry, Macro, Pin, Port, Obs, Options, Layer, Rect, Polygon, Path}
 use Rattle.grammar.specs.Table.{body}
@@ -13,7 +13,7 @@ use Rattle.lines.specs.Formed.{wordAt, beginOf, coded, beside, wordFor}
 use Rattle.lines.proofs.Rows.{Tested, plainly, begun, suits, distinct}
 
 pub tested : (b : Block) → Tested (rowsOf (body b))
-unfolding keys values words raised upper same firstWhere wordOf antennaKeys layerOptions valuesOf firstOf member nth all wordAt beginOf coded beside wordFor plainly begun suits distinct
+unfolding keys values words raised upper same firstWhere wordOf kindValues valuesIn valuesOf firstOf member nth all wordAt beginOf coded beside wordFor plainly begun suits distinct
 tested Library = record { suit = refl; differ = refl; spelt = refl }
 tested Units = record { suit = refl; differ = refl; spelt = refl }
 tested Site = record { suit = refl; differ = refl; spelt = refl }

@@ -9,7 +9,7 @@ use lib.ListN.{length}
 use Rattle.text.specs.Text.{bytes}
 use Rattle.lexer.specs.Kinds as Kind
 use Rattle.word.specs.Words.{keys, values, words, raised, upper, same, firstWhere, wordOf}
-use Rattle.word.specs.Codes.{onOff, siteClasses, symmetries, macroClasses, directions, uses, shapes, antennaModels, antennaKeys, portClasses, layerOptions, valuesOf}
+use Rattle.word.specs.Codes.{kindValues, valuesIn, valuesOf}
 use Rattle.word.specs.Spelling.{spelling}
 use Rattle.word.proofs.Words.{both}
 use Rattle.grammar.specs.Grammar.{Block, Act, Body, keyed, worded, options, parts, counted}
@@ -52,7 +52,7 @@ unfoldable wordedBody : Body → Bool
 wordedBody b = all wordedForm (formsIn b) && wordedEnd b
 
 table : (b : Block) → wordedBody (body b) ≡ true
-unfolding wordedBody wordedEnd wordedClose wordedForm all isName isToken isSpelt allSpelt formsIn rowForms formsOf begins closeOf allWorded wellWorded nextAsks asksCode allSayable sayable each-value spelling keys values words raised upper same firstWhere wordOf onOff siteClasses symmetries macroClasses directions uses shapes antennaModels antennaKeys portClasses layerOptions valuesOf
+unfolding wordedBody wordedEnd wordedClose wordedForm all isName isToken isSpelt allSpelt formsIn rowForms formsOf begins closeOf allWorded wellWorded nextAsks asksCode allSayable sayable each-value spelling keys values words raised upper same firstWhere wordOf kindValues valuesIn valuesOf
 table = at-block wordedBody refl
 
 forms-worded : (f : Frame ℕ) → all wordedForm (formsIn (body (f .block))) ≡ true

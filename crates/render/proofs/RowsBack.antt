@@ -8,7 +8,7 @@ use mathlib.Core.Logic.{_⊎_, inl, inr, ⊎-elim}
 use borrow.Author.Tests.{eq-eqb, not-true}
 use lib.Dec.{eqb}
 use Rattle.word.specs.Words.{keys, values, words, raised, upper, same, firstWhere, wordOf, word, isKey}
-use Rattle.word.specs.Codes.{onOff, siteClasses, symmetries, macroClasses, directions, uses, shapes, antennaModels, antennaKeys, portClasses, layerOptions, valuesOf}
+use Rattle.word.specs.Codes.{kindValues, valuesIn, valuesOf}
 use Rattle.word.specs.Spelling.{spelling}
 use Rattle.word.proofs.Words.{both}
 use Rattle.grammar.specs.Grammar.{Block, Act, statement, close, refuse, back, upTo54, Row, Body, keyed, worded, options, parts, counted}
@@ -52,7 +52,7 @@ legible-body (parts k is) = leads noSemi 0 is && legible k 0 false false is
 legible-body (counted k is) = legible k 0 false false is
 
 pub all-legible : (b : Block) → legible-body (body b) ≡ true
-unfolding legible-body legible-rows absent legible-act legible leads nextAsks asksCode endsNoName well-spelt key-first each-value tied spelling keys values words raised upper same firstWhere wordOf isKey onOff siteClasses symmetries macroClasses directions uses shapes antennaModels antennaKeys portClasses layerOptions valuesOf
+unfolding legible-body legible-rows absent legible-act legible leads nextAsks asksCode endsNoName well-spelt key-first each-value tied spelling keys values words raised upper same firstWhere wordOf isKey kindValues valuesIn valuesOf
 all-legible = at-block legible-body refl
 
 -- THE ROW OF A WORD

@@ -6,7 +6,7 @@ use mathlib.Core.List.{List, [], _∷_, List·Memᴰ·head}
 use borrow.Author.Tests.{eq-eqb, not-true}
 use Rattle.lexer.specs.Kinds as Kind
 use Rattle.word.specs.Words.{keys, values, words, raised, upper, same, firstWhere, wordOf, isKey}
-use Rattle.word.specs.Codes.{onOff, siteClasses, symmetries, macroClasses, directions, uses, shapes, antennaModels, antennaKeys, portClasses, layerOptions, valuesOf, placeOf, codeOf}
+use Rattle.word.specs.Codes.{kindValues, valuesIn, valuesOf, placeOf, codeOf}
 use Rattle.word.proofs.Words.{both, clash, same-refl}
 use Rattle.grammar.specs.Tokens.{Tok, Ahead, Answer, ok, refused, next-token, matches}
 use Rattle.grammar.specs.Grammar.{Block, Item, semi, whole, stay, Act, Row, Body, keyed, worded, options, parts, counted}
@@ -70,7 +70,7 @@ unfoldable proper : Body → Bool
 proper b = (distinct (formsIn b) && Spelt.all fit (formsIn b)) && rows-fit b
 
 all-proper : (b : Block) → proper (body b) ≡ true
-unfolding proper rows-fit stays last-fit fit writable unasking distinct differ leading Says.gives formsIn rowForms formsOf closeOf Spelt.all orderly Rows.plain inner shut numbered ready optional skip proven proves fades Says.shows Fields.given Fields.asked Fields.untouched Codes.keyed-seconds Codes.goes goesOn keys values words raised upper same firstWhere wordOf onOff siteClasses symmetries macroClasses directions uses shapes antennaModels antennaKeys portClasses layerOptions valuesOf placeOf codeOf empty
+unfolding proper rows-fit stays last-fit fit writable unasking distinct differ leading Says.gives formsIn rowForms formsOf closeOf Spelt.all orderly Rows.plain inner shut numbered ready optional skip proven proves fades Says.shows Fields.given Fields.asked Fields.untouched Codes.keyed-seconds Codes.goes goesOn keys values words raised upper same firstWhere wordOf kindValues valuesIn valuesOf placeOf codeOf empty
 all-proper = at-block proper refl
 
 -- WHAT A STEP SAYS

@@ -10,7 +10,7 @@ use Rattle.lexer.specs.Lex.{answers, from, firstAnswer}
 use Rattle.lexer.specs.Screen.{screened}
 use Rattle.numeral.specs.Shortest.{natural, fraction, shortest}
 use Rattle.word.specs.Words.{keys, values, words, raised, upper, same, firstWhere, wordOf, isKey}
-use Rattle.word.specs.Codes.{onOff, siteClasses, symmetries, macroClasses, directions, uses, shapes, antennaModels, antennaKeys, portClasses, layerOptions, valuesOf, placeOf, codeOf}
+use Rattle.word.specs.Codes.{kindValues, valuesIn, valuesOf, placeOf, codeOf}
 use Rattle.word.specs.Spelling.{spelling, firstOf, secondOf}
 use Rattle.grammar.specs.Tokens.{next, expect}
 use Rattle.grammar.specs.Engine.{Maybe, none, some, get-key, expect-key, expect-keyword, expect-ident, parse-number, parse-enum, parse-second, empty, member, item, items}
@@ -45,11 +45,11 @@ abbrev sample : List ℕ
 sample = bytes "version 5.40 ; units database microns 1000 ; end units macro m;1 class pad output ; foreign f -0.50 1.250 ; foreign g ; symmetry x y ; pin p direction output tristate ; antennadiffarea 1 layer a ; antennagatearea 0 ; antennamodel oxide1 port class core ; layer m1 spacing 0.1 ; width 2 ; rect 0 0 1 1 ; layer m2 ; polygon 0 0 1 0 1 1 ; via 1 1 v ; end end p obs layer m1 exceptpgnet ; end end m;1 busbitchars \"[;\" ; end library"
 
 pub written : again sample ≡ bytes "VERSION 5.4 ;\nUNITS\n  DATABASE MICRONS 1000 ;\nEND UNITS\nMACRO m;1\n  CLASS PAD OUTPUT ;\n  FOREIGN f -0.5 1.25 ;\n  FOREIGN g ;\n  SYMMETRY X Y ;\n  PIN p\n    DIRECTION OUTPUT TRISTATE ;\n    ANTENNADIFFAREA 1 LAYER a ;\n    ANTENNAGATEAREA 0 ;\n    ANTENNAMODEL OXIDE1\n    PORT\n      CLASS CORE ;\n      LAYER m1 SPACING 0.1 ;\n        WIDTH 2 ;\n        RECT 0 0 1 1 ;\n      LAYER m2 ;\n        POLYGON 0 0 1 0 1 1 ;\n        VIA 1 1 v ;\n    END\n  END p\n  OBS\n    LAYER m1 EXCEPTPGNET ;\n  END\nEND m;1\nBUSBITCHARS \"[;\" ;\nEND LIBRARY\n"
-unfolding classOf run answers from firstAnswer screened keys values words raised upper same firstWhere wordOf isKey onOff siteClasses symmetries macroClasses directions uses shapes antennaModels antennaKeys portClasses layerOptions valuesOf placeOf codeOf next expect get-key expect-key expect-keyword expect-ident parse-number parse-enum Engine.begins parse-second empty member item items without actFor perform peek-key step turn turns readAhead reading natural fraction shortest text indexIn aside spelling firstOf secondOf says shows any omitted saysAll formsOf rowForms formsIn ofCode isOf formFor begins saidIn closeOf lastWords spaced indented line onLine endAll pieces after lines render
+unfolding classOf run answers from firstAnswer screened keys values words raised upper same firstWhere wordOf isKey kindValues valuesIn valuesOf placeOf codeOf next expect get-key expect-key expect-keyword expect-ident parse-number parse-enum Engine.begins parse-second empty member item items without actFor perform peek-key step turn turns readAhead reading natural fraction shortest text indexIn aside spelling firstOf secondOf says shows any omitted saysAll formsOf rowForms formsIn ofCode isOf formFor begins saidIn closeOf lastWords spaced indented line onLine endAll pieces after lines render
 written = refl
 
 pub fit : fits sample ≡ true
-unfolding classOf run answers from firstAnswer screened keys values words raised upper same firstWhere wordOf isKey onOff siteClasses symmetries macroClasses directions uses shapes antennaModels antennaKeys portClasses layerOptions valuesOf placeOf codeOf next expect get-key expect-key expect-keyword expect-ident parse-number parse-enum Engine.begins parse-second empty member item items without actFor perform peek-key step turn turns readAhead reading natural fraction shortest text indexIn aside spelling firstOf secondOf says shows any omitted saysAll formsOf rowForms formsIn ofCode isOf formFor begins saidIn closeOf lastWords all isName isString isToken isSpelt isCode holds holdsAll gives givesAll onLine after suits admits allEnd fitFrom indexed isFit
+unfolding classOf run answers from firstAnswer screened keys values words raised upper same firstWhere wordOf isKey kindValues valuesIn valuesOf placeOf codeOf next expect get-key expect-key expect-keyword expect-ident parse-number parse-enum Engine.begins parse-second empty member item items without actFor perform peek-key step turn turns readAhead reading natural fraction shortest text indexIn aside spelling firstOf secondOf says shows any omitted saysAll formsOf rowForms formsIn ofCode isOf formFor begins saidIn closeOf lastWords all isName isString isToken isSpelt isCode holds holdsAll gives givesAll onLine after suits admits allEnd fitFrom indexed isFit
 fit = refl
 
 -- a record of a kind, by its index and that of its owner

@@ -16,7 +16,7 @@ use Rattle.lexer.specs.Lex.{answers, from, firstAnswer}
 use Rattle.lexer.specs.Screen.{screened}
 use Rattle.word.specs.Words.{keys, values, words, raised, upper, firstWhere, wordOf, isKey}
 use Rattle.word.specs.Words.{same as same-word}
-use Rattle.word.specs.Codes.{onOff, siteClasses, symmetries, macroClasses, directions, uses, shapes, antennaModels, antennaKeys, portClasses, layerOptions, valuesOf, placeOf, codeOf}
+use Rattle.word.specs.Codes.{kindValues, valuesIn, valuesOf, placeOf, codeOf}
 use Rattle.grammar.specs.Tokens.{next, expect}
 use Rattle.grammar.specs.Engine.{get-key, expect-key, expect-keyword, expect-ident, parse-number, parse-enum, begins, parse-second, empty, member, item, items}
 use Rattle.grammar.specs.Turns.{without, actFor, perform, peek-key, step, turn, turns}
@@ -53,7 +53,7 @@ pub record Starred : Type 0 where
   pub a-lack : checked (reading site) (encodedAll (r8 ∷ r9 ∷ [])) ≡ refusal 15 20 0
 
 pub starred : Starred
-unfolding little number encoded decoded front joined classOf run answers from firstAnswer screened keys values words raised upper firstWhere wordOf isKey same-word onOff siteClasses symmetries macroClasses directions uses shapes antennaModels antennaKeys portClasses layerOptions valuesOf placeOf codeOf next expect get-key expect-key expect-keyword expect-ident parse-number parse-enum begins parse-second empty member item items without actFor perform peek-key step turn turns readAhead reading same among first wrong lacks verdict
+unfolding little number encoded decoded front joined classOf run answers from firstAnswer screened keys values words raised upper firstWhere wordOf isKey same-word kindValues valuesIn valuesOf placeOf codeOf next expect get-key expect-key expect-keyword expect-ident parse-number parse-enum begins parse-second empty member item items without actFor perform peek-key step turn turns readAhead reading same among first wrong lacks verdict
 starred =
     record {
       empty-text = refl;
@@ -78,5 +78,5 @@ pub record Worked : Type 0 where
   pub text-first : checked (reading (bytes "")) (0 ∷ []) ≡ refusal 4 0 1
 
 pub worked : Worked
-unfolding little number encoded decoded front joined classOf run answers from firstAnswer screened keys values words raised upper firstWhere wordOf isKey same-word onOff siteClasses symmetries macroClasses directions uses shapes antennaModels antennaKeys portClasses layerOptions valuesOf placeOf codeOf next expect get-key expect-key expect-keyword expect-ident parse-number parse-enum begins parse-second empty member item items without actFor perform peek-key step turn turns readAhead reading same among first wrong lacks verdict
+unfolding little number encoded decoded front joined classOf run answers from firstAnswer screened keys values words raised upper firstWhere wordOf isKey same-word kindValues valuesIn valuesOf placeOf codeOf next expect get-key expect-key expect-keyword expect-ident parse-number parse-enum begins parse-second empty member item items without actFor perform peek-key step turn turns readAhead reading same among first wrong lacks verdict
 worked = record { another-order = refl; not-whole = refl; text-first = refl }

@@ -1,8 +1,8 @@
 -- The place of a value in a list: one step over two numbers, and the end; and the lists of the kinds.
 use Prim.Native.Nat.{ℕ, suc, _+_, _≤_, _<_}
-use mathlib.Core.Path.{_≡_, ap, _∙_}
+use mathlib.Core.Path.{_≡_, refl, ap, _∙_}
 use mathlib.Core.Bool.{true, false, _&&_}
-use mathlib.Core.List.{List, [], _∷_}
+use mathlib.Core.List.{List, [], _∷_, map}
 use native.Mathlib.Numerals.{add-one, add-two}
 use native.Mathlib.Decide.{decLt}
 use native.Mathlib.Omega.{arith}
@@ -10,9 +10,8 @@ use lib.Dec.{eqb}
 use borrow.Author.Tests.{ne-eqb}
 use lib.ListN.{length, drop, getD, drop-of-length-le}
 use lib.Seq.{drop-cons}
-use Rattle.record.specs.Kinds.{NAMESCASESENSITIVE, NOWIREEXTENSIONATPIN, SITE-CLASS, SYMMETRY-WORD, MACRO-CLASS, DIRECTION, USE, SHAPE, ANTENNAMODEL, ANTENNA, PORT-CLASS, LAYER-OPTION}
-use Rattle.word.specs.Codes.{placeOf, valuesOf, codeOf}
-use Rattle.word.proofs.Steps.{Nested, apart}
+use Rattle.word.specs.Codes.{Valued, kindValues, valuesIn, valuesOf, placeOf, codeOf}
+use Rattle.word.proofs.Steps.{Nested, Apart, apart}
 
 module _ (n : ℕ) (l : List ℕ) (i first second : ℕ) where
   pairs : i + 1 < length l → drop i l ≡ getD l i 0 ∷ getD l (i + 1) 0 ∷ drop (i + 2) l
@@ -43,35 +42,27 @@ at-kind k first second e q h = h ∙ rw (e, q)
 pub at-list : {kind : ℕ} (k i : ℕ) {l : List ℕ} {r : ℕ} → kind ≡ k → valuesOf k ≡ l → r ≡ getD l i 0 → r ≡ getD (valuesOf kind) i 0
 at-list k i e q h = h ∙ rw (e, q)
 
--- the kinds that have a list
-abbrev kinds : List ℕ
-kinds =
-    NAMESCASESENSITIVE ∷ NOWIREEXTENSIONATPIN ∷ SITE-CLASS ∷ SYMMETRY-WORD ∷ MACRO-CLASS ∷ DIRECTION
-    ∷ USE ∷ SHAPE ∷ ANTENNAMODEL ∷ ANTENNA ∷ PORT-CLASS ∷ LAYER-OPTION ∷ []
+-- the kinds of a table of values
+abbrev kindsOf : List Valued → List ℕ
+kindsOf = map (λ r. r .kind)
 
--- a kind that has no list has no code and no entry
-no-list : (kind : ℕ) → Nested kind kinds (Unit {0}) → valuesOf kind ≡ []
+-- a kind that the table lacks has no list, so it has no code and no entry
+no-list : (rs : List Valued) (kind : ℕ) → Apart kind (kindsOf rs) → valuesIn rs kind ≡ []
+unfolding valuesIn
+no-list [] kind h = refl
+no-list (r ∷ rs) kind h = rw (ne-eqb kind (r .kind) (h .0)) (no-list rs kind (h .1))
+
+-- the kind is none of the table of all values, in the form in which a `match` says so
+abbrev Unlisted : ℕ → Type 0
+Unlisted kind = Nested kind (kindsOf kindValues) (Unit {0})
+
+unlisted : (kind : ℕ) → Unlisted kind → valuesOf kind ≡ []
 unfolding valuesOf
-no-list kind h =
-    let a = apart kind kinds (Unit {0}) h .1 in
-    rw (
-      ne-eqb _ _ (a .0),
-      ne-eqb _ _ (a .1 .0),
-      ne-eqb _ _ (a .1 .1 .0),
-      ne-eqb _ _ (a .1 .1 .1 .0),
-      ne-eqb _ _ (a .1 .1 .1 .1 .0),
-      ne-eqb _ _ (a .1 .1 .1 .1 .1 .0),
-      ne-eqb _ _ (a .1 .1 .1 .1 .1 .1 .0),
-      ne-eqb _ _ (a .1 .1 .1 .1 .1 .1 .1 .0),
-      ne-eqb _ _ (a .1 .1 .1 .1 .1 .1 .1 .1 .0),
-      ne-eqb _ _ (a .1 .1 .1 .1 .1 .1 .1 .1 .1 .0),
-      ne-eqb _ _ (a .1 .1 .1 .1 .1 .1 .1 .1 .1 .1 .0),
-      ne-eqb _ _ (a .1 .1 .1 .1 .1 .1 .1 .1 .1 .1 .1 .0),
-    )
+unlisted kind h = no-list kindValues kind (apart kind (kindsOf kindValues) (Unit {0}) h .1)
 
-pub no-kind : (kind first second : ℕ) → Nested kind kinds (Unit {0}) → 0 ≡ codeOf kind first second
+pub no-kind : (kind first second : ℕ) → Unlisted kind → 0 ≡ codeOf kind first second
 unfolding placeOf codeOf
-no-kind kind first second h = rw (no-list kind h)
+no-kind kind first second h = rw (unlisted kind h)
 
-pub no-entry : (kind i : ℕ) → Nested kind kinds (Unit {0}) → 0 ≡ getD (valuesOf kind) i 0
-no-entry kind i h = rw (no-list kind h)
+pub no-entry : (kind i : ℕ) → Unlisted kind → 0 ≡ getD (valuesOf kind) i 0
+no-entry kind i h = rw (unlisted kind h)

@@ -2,7 +2,7 @@
 use Prim.Native.Nat.{ℕ, suc}
 use Prim.Native.String.{String}
 use mathlib.Core.Bool.{cond, _&&_}
-use mathlib.Core.List.{List, [], _∷_, _++_}
+use mathlib.Core.List.{List, [], _∷_, _++_, foldr}
 use lib.Dec.{eqb}
 use Rattle.record.specs.Kinds.{NAMESCASESENSITIVE, NOWIREEXTENSIONATPIN, SITE-CLASS, SYMMETRY-WORD, MACRO-CLASS, DIRECTION, USE, SHAPE, ANTENNAMODEL, ANTENNA, PORT-CLASS, LAYER-OPTION}
 use Rattle.word.specs.Words.{word}
@@ -23,110 +23,64 @@ with w (v ∷ vs) = two w v ∷ with w vs
 
 -- THE VALUES, in words
 
-abbrev onOffWords : List Value
-onOffWords = each ("ON" ∷ "OFF" ∷ [])
-
-abbrev siteClassWords : List Value
-siteClassWords = each ("PAD" ∷ "CORE" ∷ [])
-
-abbrev symmetryWords : List Value
-symmetryWords = each ("X" ∷ "Y" ∷ "R90" ∷ [])
-
-abbrev macroClassWords : List Value
-macroClassWords =
+abbrev macroClasses : List Value
+macroClasses =
     (one "COVER" ∷ two "COVER" "BUMP" ∷ one "RING" ∷ one "BLOCK" ∷ with "BLOCK" ("BLACKBOX" ∷ "SOFT" ∷ []))
     ++ (one "PAD" ∷ with "PAD" ("INPUT" ∷ "OUTPUT" ∷ "INOUT" ∷ "POWER" ∷ "SPACER" ∷ "AREAIO" ∷ []))
     ++ (one "CORE" ∷ with "CORE" ("FEEDTHRU" ∷ "TIEHIGH" ∷ "TIELOW" ∷ "SPACER" ∷ "ANTENNACELL" ∷ "WELLTAP" ∷ []))
     ++ with "ENDCAP" ("PRE" ∷ "POST" ∷ "TOPLEFT" ∷ "TOPRIGHT" ∷ "BOTTOMLEFT" ∷ "BOTTOMRIGHT" ∷ [])
 
-abbrev directionWords : List Value
-directionWords = one "INPUT" ∷ one "OUTPUT" ∷ two "OUTPUT" "TRISTATE" ∷ one "INOUT" ∷ one "FEEDTHRU" ∷ []
-
-abbrev useWords : List Value
-useWords = each ("SIGNAL" ∷ "ANALOG" ∷ "POWER" ∷ "GROUND" ∷ "CLOCK" ∷ [])
-
-abbrev shapeWords : List Value
-shapeWords = each ("ABUTMENT" ∷ "RING" ∷ "FEEDTHRU" ∷ [])
-
-abbrev antennaModelWords : List Value
-antennaModelWords = each ("OXIDE1" ∷ "OXIDE2" ∷ "OXIDE3" ∷ "OXIDE4" ∷ [])
-
 -- in the order of `parse_pin`
-abbrev antennaKeyWords : List Value
-antennaKeyWords =
+abbrev antennaKeys : List Value
+antennaKeys =
     each (
     "ANTENNADIFFAREA" ∷ "ANTENNAGATEAREA" ∷ "ANTENNAPARTIALMETALAREA" ∷ "ANTENNAPARTIALMETALSIDEAREA" ∷ "ANTENNAPARTIALCUTAREA"
     ∷ "ANTENNAPARTIALDIFFAREA" ∷ "ANTENNAMAXAREACAR" ∷ "ANTENNAMAXSIDEAREACAR" ∷ "ANTENNAMAXCUTCAR" ∷ []
     )
 
-abbrev portClassWords : List Value
-portClassWords = each ("NONE" ∷ "CORE" ∷ "BUMP" ∷ [])
+-- a kind of record and its values: the first has code 1
+pub record Valued : Type 0 where
+  pub kind : ℕ
+  pub values : List Value
 
-abbrev layerOptionWords : List Value
-layerOptionWords = each ("EXCEPTPGNET" ∷ "SPACING" ∷ "DESIGNRULEWIDTH" ∷ [])
+abbrev has : ℕ → List Value → Valued
+has k vs = record { kind = k; values = vs }
+
+-- the values of each kind
+unfoldable pub kindValues : List Valued
+kindValues =
+    has NAMESCASESENSITIVE (each ("ON" ∷ "OFF" ∷ []))
+    ∷ has NOWIREEXTENSIONATPIN (each ("ON" ∷ "OFF" ∷ []))
+    ∷ has SITE-CLASS (each ("PAD" ∷ "CORE" ∷ []))
+    ∷ has SYMMETRY-WORD (each ("X" ∷ "Y" ∷ "R90" ∷ []))
+    ∷ has MACRO-CLASS macroClasses
+    ∷ has DIRECTION (one "INPUT" ∷ one "OUTPUT" ∷ two "OUTPUT" "TRISTATE" ∷ one "INOUT" ∷ one "FEEDTHRU" ∷ [])
+    ∷ has USE (each ("SIGNAL" ∷ "ANALOG" ∷ "POWER" ∷ "GROUND" ∷ "CLOCK" ∷ []))
+    ∷ has SHAPE (each ("ABUTMENT" ∷ "RING" ∷ "FEEDTHRU" ∷ []))
+    ∷ has ANTENNAMODEL (each ("OXIDE1" ∷ "OXIDE2" ∷ "OXIDE3" ∷ "OXIDE4" ∷ []))
+    ∷ has ANTENNA antennaKeys
+    ∷ has PORT-CLASS (each ("NONE" ∷ "CORE" ∷ "BUMP" ∷ []))
+    ∷ has LAYER-OPTION (each ("EXCEPTPGNET" ∷ "SPACING" ∷ "DESIGNRULEWIDTH" ∷ []))
+    ∷ []
 
 -- all of them
 abbrev pub allValues : List Value
-allValues =
-    onOffWords ++ siteClassWords ++ symmetryWords ++ macroClassWords ++ directionWords
-    ++ useWords ++ shapeWords ++ antennaModelWords ++ antennaKeyWords ++ portClassWords ++ layerOptionWords
+allValues = foldr (λ r vs. r .values ++ vs) [] kindValues
 
 -- IN NUMBERS, two for each value, of which the second is 0 where there is no second word
 
-abbrev numbers : List Value → List ℕ
+abbrev pub numbers : List Value → List ℕ
 numbers [] = []
 numbers (one w ∷ vs) = word w ∷ 0 ∷ numbers vs
 numbers (two w v ∷ vs) = word w ∷ word v ∷ numbers vs
 
-unfoldable pub onOff : List ℕ
-onOff = numbers onOffWords
+-- the values of a kind; none where the table lacks it
+unfoldable pub valuesIn : List Valued → ℕ → List ℕ
+valuesIn [] k = []
+valuesIn (r ∷ rs) k = cond (eqb k (r .kind)) (numbers (r .values)) (valuesIn rs k)
 
-unfoldable pub siteClasses : List ℕ
-siteClasses = numbers siteClassWords
-
-unfoldable pub symmetries : List ℕ
-symmetries = numbers symmetryWords
-
-unfoldable pub macroClasses : List ℕ
-macroClasses = numbers macroClassWords
-
-unfoldable pub directions : List ℕ
-directions = numbers directionWords
-
-unfoldable pub uses : List ℕ
-uses = numbers useWords
-
-unfoldable pub shapes : List ℕ
-shapes = numbers shapeWords
-
-unfoldable pub antennaModels : List ℕ
-antennaModels = numbers antennaModelWords
-
-unfoldable pub antennaKeys : List ℕ
-antennaKeys = numbers antennaKeyWords
-
-unfoldable pub portClasses : List ℕ
-portClasses = numbers portClassWords
-
-unfoldable pub layerOptions : List ℕ
-layerOptions = numbers layerOptionWords
-
--- the values of each kind
 unfoldable pub valuesOf : ℕ → List ℕ
-valuesOf kind =
-    cond (eqb kind NAMESCASESENSITIVE) onOff
-    (cond (eqb kind NOWIREEXTENSIONATPIN) onOff
-    (cond (eqb kind SITE-CLASS) siteClasses
-    (cond (eqb kind SYMMETRY-WORD) symmetries
-    (cond (eqb kind MACRO-CLASS) macroClasses
-    (cond (eqb kind DIRECTION) directions
-    (cond (eqb kind USE) uses
-    (cond (eqb kind SHAPE) shapes
-    (cond (eqb kind ANTENNAMODEL) antennaModels
-    (cond (eqb kind ANTENNA) antennaKeys
-    (cond (eqb kind PORT-CLASS) portClasses
-    (cond (eqb kind LAYER-OPTION) layerOptions
-    [])))))))))))
+valuesOf kind = valuesIn kindValues kind
 
 -- the place of a value in a list, counted from n on; 0 where it is not there
 unfoldable pub placeOf : ℕ → List ℕ → ℕ → ℕ → ℕ

@@ -4,7 +4,7 @@ use mathlib.Core.Bool.{true, false}
 use Rattle.text.specs.Text.{bytes}
 use Rattle.record.specs.Kinds.{MACRO-CLASS, DIRECTION, USE, ANTENNA}
 use Rattle.word.specs.Words.{keys, values, words, raised, upper, same, firstWhere, wordOf, word, isKey}
-use Rattle.word.specs.Codes.{macroClasses, directions, uses, antennaKeys, valuesOf, placeOf, codeOf}
+use Rattle.word.specs.Codes.{kindValues, valuesIn, valuesOf, placeOf, codeOf}
 
 -- lower case spells the same word
 lower-case : wordOf (bytes "Layer") ≡ word "LAYER"
@@ -31,27 +31,27 @@ value-word = refl
 
 -- the first and the last class of a macro
 cover : codeOf MACRO-CLASS (word "COVER") 0 ≡ 1
-unfolding keys values words raised upper same firstWhere wordOf macroClasses valuesOf placeOf codeOf
+unfolding keys values words raised upper same firstWhere wordOf kindValues valuesIn valuesOf placeOf codeOf
 cover = refl
 
 last-corner : codeOf MACRO-CLASS (word "ENDCAP") (word "BOTTOMRIGHT") ≡ 26
-unfolding keys values words raised upper same firstWhere wordOf macroClasses valuesOf placeOf codeOf
+unfolding keys values words raised upper same firstWhere wordOf kindValues valuesIn valuesOf placeOf codeOf
 last-corner = refl
 
 -- ENDCAP alone is no class
 bare-endcap : codeOf MACRO-CLASS (word "ENDCAP") 0 ≡ 0
-unfolding keys values words raised upper same firstWhere wordOf macroClasses valuesOf placeOf codeOf
+unfolding keys values words raised upper same firstWhere wordOf kindValues valuesIn valuesOf placeOf codeOf
 bare-endcap = refl
 
 tristate : codeOf DIRECTION (word "OUTPUT") (word "TRISTATE") ≡ 3
-unfolding keys values words raised upper same firstWhere wordOf directions valuesOf placeOf codeOf
+unfolding keys values words raised upper same firstWhere wordOf kindValues valuesIn valuesOf placeOf codeOf
 tristate = refl
 
 -- a word of another kind's list is no value
 no-use : codeOf USE (word "INPUT") 0 ≡ 0
-unfolding keys values words raised upper same firstWhere wordOf uses valuesOf placeOf codeOf
+unfolding keys values words raised upper same firstWhere wordOf kindValues valuesIn valuesOf placeOf codeOf
 no-use = refl
 
 ninth : codeOf ANTENNA (word "ANTENNAMAXCUTCAR") 0 ≡ 9
-unfolding keys values words raised upper same firstWhere wordOf antennaKeys valuesOf placeOf codeOf
+unfolding keys values words raised upper same firstWhere wordOf kindValues valuesIn valuesOf placeOf codeOf
 ninth = refl

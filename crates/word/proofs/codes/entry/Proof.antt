@@ -2,13 +2,13 @@
 use mathlib.Core.Path.{refl}
 use borrow.Author.Needs.{needs}
 use Rattle.word.specs.Words.{keys, values, words, raised, upper, same, firstWhere, wordOf}
-use Rattle.word.specs.Codes.{onOff, siteClasses, symmetries, macroClasses, directions, uses, shapes, antennaModels, antennaKeys, portClasses, layerOptions, valuesOf}
+use Rattle.word.specs.Codes.{kindValues, valuesIn, valuesOf}
 use Rattle.word.proofs.Values.{at-list, no-entry}
 use Rattle.word.proofs.codes.entry.Statement.{statement}
 use Rattle.word.proofs.codes.entry.Tie as tie
 
 pub entry-spec : {M : Type 1} → statement M
-unfolding keys values words raised upper same firstWhere wordOf onOff siteClasses symmetries macroClasses directions uses shapes antennaModels antennaKeys portClasses layerOptions valuesOf
+unfolding keys values words raised upper same firstWhere wordOf kindValues valuesIn valuesOf
 entry-spec =
     tie.close
     (tie.spec
