@@ -182,21 +182,7 @@ fn after(text: &[u8], it: u64, rest: u64, r: Record) -> u64
     if shown(text, rest, n, r) {
         return rest;
     }
-    skip(rest, n)
-}
-
-// The number without its lowest bytes.
-fn skip(s: u64, n: u64) -> u64
-    ensures of { λ r. ⌜ itemsOf r ≡ drop n (itemsOf s) ⌝ }
-    ensures less { λ r. ⌜ r ≤ s ⌝ }
-{
-    let mut r = s;
-    let mut m = n;
-    while m != 0 {
-        r /= 256;
-        m -= 1;
-    }
-    r
+    rows::skip(rest, n)
 }
 
 // Whether the record shows one of the first n items.

@@ -1,8 +1,10 @@
 -- A row that the code chose, and the step of its block.
 use Prim.Native.Nat.{ℕ, _%_, _≤_, _<_}
-use mathlib.Core.Path.{_≡_, sym, ap, _∙_}
+use mathlib.Core.Path.{_≡_, refl, sym, ap, _∙_}
+use mathlib.Core.Bool.{Bool, true, false, _&&_}
 use mathlib.Core.List.{List}
 use borrow.Author.Tests.{eq-eqb, ne-eqb, lt-ltb, le-ltb}
+use lib.Dec.{eqb}
 use Rattle.refusal.specs.declared.Refusal.{Refusal}
 use Rattle.lexer.specs.Kinds as Kind
 use Rattle.lexer.specs.declared.Token.{Token}
@@ -24,7 +26,7 @@ use Rattle.parser.specs.Kept.{frameOf}
 use Rattle.parser.specs.Stepped.{runs, stoppedAs, wordedBy, SameAct}
 use Rattle.parser.proofs.Taking.{refused-so, no-token}
 use Rattle.parser.proofs.Acts.{act-runs, act-refused, act-stopped}
-use Rattle.parser.proofs.Forms.{at-keyed, at-options, at-parts, at-counted, lacks-none}
+use Rattle.parser.proofs.Forms.{at-keyed, at-spoken, at-parts, at-counted, lacks-none}
 
 -- where a complaint is placed
 abbrev markOf : Token → Mark
@@ -49,26 +51,29 @@ module _ (s : List ℕ) (v : ℕ) (f : Frame) (t : Token) (p : Peeked) (peeks : 
   pub unseen : (r : Refusal) → p ≡ K.Refused r → halting r ≡ stepping s v f t
   unseen r e = ap (λ o. asPeeked o (λ k. doing (next-token (aheadOf s t)) (actIn (f .block) k))) (sym e) ∙ looked
 
-  module _ (w : ℕ) (e : p ≡ K.Is w) (h i : ℕ) (held : Act) (is : held ≡ actIn (f .block) w) (same : SameAct v (actOf h i) held) (l : h % 256 < 128) where
-    seen : doing (next-token (aheadOf s t)) (actIn (f .block) w) ≡ stepping s v f t
-    seen = ap (λ o. asPeeked o (λ k. doing (next-token (aheadOf s t)) (actIn (f .block) k))) (sym e) ∙ looked
+  -- the word is a key word, and the act is its row's
+  module _ (w : ℕ) (e : p ≡ K.Is w) (act : Act) (is : act ≡ actIn (f .block) w) where
+    pub seen : doing (next-token (aheadOf s t)) act ≡ stepping s v f t
+    seen = ap (doing (next-token (aheadOf s t))) is ∙ ap (λ o. asPeeked o (λ k. doing (next-token (aheadOf s t)) (actIn (f .block) k))) (sym e) ∙ looked
 
-    pub seen-stopped : 64 < h % 256 → stoppedAs (h % 256) (markOf t) ≡ stepping s v f t
-    seen-stopped q = act-stopped v (frameOf s f) (aheadOf s t) h i held (actIn (f .block) w) l same is (next-token (aheadOf s t)) (markOf t) q ∙ seen
+-- an act while its word is held, and the word's taking
+module _ (s : List ℕ) (v : ℕ) (f : Frame) (t : Token) (h i : ℕ) (act : Act) (same : SameAct v (actOf h i) act) (l : h % 256 < 128) where
+  abbrev does : Answer ℕ Mark (Tok ℕ Mark) → Step ℕ Mark (Rec ℕ)
+  does taken = perform v (frameOf s f) (aheadOf s t) taken (markOf t) act
 
-    module _ (o : Taken) (takes : asTaken s t o ≡ next-token (aheadOf s t)) (q : h % 256 ≤ 64) where
-      taken-so : doing (asTaken s t o) (actIn (f .block) w) ≡ stepping s v f t
-      taken-so = ap (λ g. doing g (actIn (f .block) w)) takes ∙ seen
+  pub does-stop : 64 < h % 256 → stoppedAs (h % 256) (markOf t) ≡ does (next-token (aheadOf s t))
+  does-stop q = act-stopped v (frameOf s f) (aheadOf s t) h i act act l same refl (next-token (aheadOf s t)) (markOf t) q
 
-      pub seen-refused : (r : Refusal) → o ≡ N.Refused r → halting r ≡ stepping s v f t
-      seen-refused r d =
-          act-refused v (frameOf s f) (aheadOf s t) h i held (actIn (f .block) w) l same is (r .number) (record { place = r .place; line = r .line }) (markOf t) q
-          ∙ ap (λ g. doing (asTaken s t g) (actIn (f .block) w)) (sym d) ∙ taken-so
+  module _ (o : Taken) (takes : asTaken s t o ≡ next-token (aheadOf s t)) (q : h % 256 ≤ 64) where
+    pub does-refuse : (r : Refusal) → o ≡ N.Refused r → halting r ≡ does (next-token (aheadOf s t))
+    does-refuse r d =
+        act-refused v (frameOf s f) (aheadOf s t) h i act act l same refl (r .number) (record { place = r .place; line = r .line }) (markOf t) q
+        ∙ ap (λ g. does (asTaken s t g)) (sym d) ∙ ap does takes
 
-      pub seen-runs : (u : Token) → o ≡ N.Next u → runs (frameOf s f) (aheadOf s t) (aheadOf s u) (actOf h i) ≡ stepping s v f t
-      seen-runs u d =
-          act-runs v (frameOf s f) (aheadOf s t) h i held (actIn (f .block) w) l same is (tokOf s t) (aheadOf s u) (markOf t) q
-          ∙ ap (λ g. doing (asTaken s t g) (actIn (f .block) w)) (sym d) ∙ taken-so
+    pub does-run : (u : Token) → o ≡ N.Next u → runs (frameOf s f) (aheadOf s t) (aheadOf s u) (actOf h i) ≡ does (next-token (aheadOf s t))
+    does-run u d =
+        act-runs v (frameOf s f) (aheadOf s t) h i act act l same refl (tokOf s t) (aheadOf s u) (markOf t) q
+        ∙ ap (λ g. does (asTaken s t g)) (sym d) ∙ ap does takes
 
 -- A WORD IS TAKEN
 
@@ -99,15 +104,18 @@ module _ (s : List ℕ) (v : ℕ) (f : Frame) (t : Token) (o : Taken) (takes : a
     pub taken-runs : h % 256 ≤ 64 → runs (frameOf s f) (aheadOf s t) (aheadOf s u) (actOf h i) ≡ wording (get-name (aheadOf s t))
     taken-runs q = act-runs v (frameOf s f) (aheadOf s t) h i held (actIn (f .block) w) l same is (tokOf s t) (aheadOf s u) (markOf u) q ∙ acts
 
--- OPTIONS
+-- A WORD IS TAKEN, OR OPTIONS END
 
-module _ (s : List ℕ) (v : ℕ) (f : Frame) (t : Token) (z : formIn (f .block) ≡ 2) where
-  pub option : (t .kind ≡ 3 → ⊥) → wordedBy v (frameOf s f) (aheadOf s t) (body (blockOf (f .block))) (get-name (aheadOf s t)) ≡ stepping s v f t
-  option n = sym (rw (at-options v (frameOf s f) (aheadOf s t) (f .block) z, ne-eqb (t .kind) 3 n))
+module _ (s : List ℕ) (v : ℕ) (f : Frame) (t : Token) (y : formIn (f .block) ≡ 0 → ⊥) (z : formIn (f .block) ≡ 3 → ⊥) (c : formIn (f .block) ≡ 4 → ⊥) where
+  abbrev over : Bool
+  over = eqb (formIn (f .block)) 2 && eqb (t .kind) 3
 
-  module _ (q : t .kind ≡ 3) (o : Taken) (takes : asTaken s t o ≡ next-token (aheadOf s t)) where
+  pub another : over ≡ false → wordedBy v (frameOf s f) (aheadOf s t) (body (blockOf (f .block))) (get-name (aheadOf s t)) ≡ stepping s v f t
+  another n = sym (rw (at-spoken v (frameOf s f) (aheadOf s t) (f .block) y z c, n))
+
+  module _ (q : over ≡ true) (o : Taken) (takes : asTaken s t o ≡ next-token (aheadOf s t)) where
     no-more : gone (afterIn (f .block)) (asTaken s t o) ≡ stepping s v f t
-    no-more = ap (gone (afterIn (f .block))) takes ∙ sym (rw (at-options v (frameOf s f) (aheadOf s t) (f .block) z, eq-eqb (t .kind) 3 q))
+    no-more = ap (gone (afterIn (f .block))) takes ∙ sym (rw (at-spoken v (frameOf s f) (aheadOf s t) (f .block) y z c, q))
 
     pub end-refused : (r : Refusal) → o ≡ N.Refused r → halting r ≡ stepping s v f t
     end-refused r d = ap (λ g. gone (afterIn (f .block)) (asTaken s t g)) (sym d) ∙ no-more

@@ -1,12 +1,11 @@
 -- What a step comes to by the form of its block.
 use Prim.Native.Nat.{ℕ}
 use mathlib.Core.Path.{_≡_, refl, ap}
-use mathlib.Core.Bool.{Bool, true, false, cond}
+use mathlib.Core.Bool.{Bool, true, false, cond, _&&_}
 use mathlib.Core.List.{List, [], _∷_}
 use native.Mathlib.Omega.{arith}
-use lib.Dec.{ltb}
+use lib.Dec.{eqb, ltb}
 use Rattle.lexer.specs.Kinds as Kind
-use Rattle.word.proofs.Steps.{Nested, apart}
 use Rattle.grammar.specs.Tokens.{Tok, Ahead, Answer, ok, refused, next-token, matches}
 use Rattle.grammar.specs.Grammar.{Row, Body, keyed, worded, options, parts, counted}
 use Rattle.grammar.specs.Table.{body}
@@ -40,29 +39,20 @@ module _ (v : ℕ) (f : Frame ℕ) (a : Ahead ℕ Mark) where
   optional-so rows n (ok t c) = refl
   optional-so rows n (refused m p) = refl
 
-  worded-so : (b : Body) → formOf b ≡ 1 → step v f a b ≡ wordedBy v f a b (get-name a)
-  unfolding formOf step
-  worded-so (keyed n rows) e = absurd (omega (arith, e))
-  worded-so (worded rows) e = judged-so rows (get-name a)
-  worded-so (options rows n) e = absurd (omega (arith, e))
-  worded-so (parts k is) e = absurd (omega (arith, e))
-  worded-so (counted k is) e = absurd (omega (arith, e))
-
-  pub at-worded : (b : ℕ) → formIn b ≡ 1 → step v f a (body (blockOf b)) ≡ wordedBy v f a (body (blockOf b)) (get-name a)
-  unfolding formIn
-  at-worded b e = worded-so (body (blockOf b)) e
-
-  options-so : (b : Body) → formOf b ≡ 2 → step v f a b ≡ cond (matches Kind.semicolon a) (gone (nextOf b) (next-token a)) (wordedBy v f a b (get-name a))
+  -- the words that are taken, and the `;` that ends options
+  spoken-so : (b : Body) → (formOf b ≡ 0 → ⊥) → (formOf b ≡ 3 → ⊥) → (formOf b ≡ 4 → ⊥)
+      → step v f a b ≡ cond (eqb (formOf b) 2 && matches Kind.semicolon a) (gone (nextOf b) (next-token a)) (wordedBy v f a b (get-name a))
   unfolding formOf nextOf step
-  options-so (keyed n rows) e = absurd (omega (arith, e))
-  options-so (worded rows) e = absurd (omega (arith, e))
-  options-so (options rows n) e = ap (cond (matches Kind.semicolon a) (gone n (next-token a))) (optional-so rows n (get-name a))
-  options-so (parts k is) e = absurd (omega (arith, e))
-  options-so (counted k is) e = absurd (omega (arith, e))
+  spoken-so (keyed n rows) k p c = absurd (k refl)
+  spoken-so (worded rows) k p c = judged-so rows (get-name a)
+  spoken-so (options rows n) k p c = ap (cond (matches Kind.semicolon a) (gone n (next-token a))) (optional-so rows n (get-name a))
+  spoken-so (parts n is) k p c = absurd (p refl)
+  spoken-so (counted n is) k p c = absurd (c refl)
 
-  pub at-options : (b : ℕ) → formIn b ≡ 2 → step v f a (body (blockOf b)) ≡ cond (matches Kind.semicolon a) (gone (afterIn b) (next-token a)) (wordedBy v f a (body (blockOf b)) (get-name a))
+  pub at-spoken : (b : ℕ) → (formIn b ≡ 0 → ⊥) → (formIn b ≡ 3 → ⊥) → (formIn b ≡ 4 → ⊥)
+      → step v f a (body (blockOf b)) ≡ cond (eqb (formIn b) 2 && matches Kind.semicolon a) (gone (afterIn b) (next-token a)) (wordedBy v f a (body (blockOf b)) (get-name a))
   unfolding formIn afterIn
-  at-options b e = options-so (body (blockOf b)) e
+  at-spoken b k p c = spoken-so (body (blockOf b)) k p c
 
   parts-so : (b : Body) → formOf b ≡ 3 → step v f a b ≡ cond (matches Kind.semicolon a) (runs f a a (endIn 3)) (runs f a a (partOf b))
   unfolding formOf partOf endIn step
@@ -87,19 +77,6 @@ module _ (v : ℕ) (f : Frame ℕ) (a : Ahead ℕ Mark) where
   pub at-counted : (b : ℕ) → formIn b ≡ 4 → step v f a (body (blockOf b)) ≡ cond (empty (f .lacks)) (runs f a a (endIn 4)) (runs f a a (partIn b))
   unfolding formIn partIn
   at-counted b e = counted-so (body (blockOf b)) e
-
--- there are five forms
-five : (b : Body) → Nested (formOf b) (0 ∷ 1 ∷ 2 ∷ 3 ∷ []) (Unit {0}) → formOf b ≡ 4
-unfolding formOf
-five (keyed n rows) h = absurd (apart 0 (0 ∷ 1 ∷ 2 ∷ 3 ∷ []) (Unit {0}) h .1 .0 refl)
-five (worded rows) h = absurd (apart 1 (0 ∷ 1 ∷ 2 ∷ 3 ∷ []) (Unit {0}) h .1 .1 .0 refl)
-five (options rows n) h = absurd (apart 2 (0 ∷ 1 ∷ 2 ∷ 3 ∷ []) (Unit {0}) h .1 .1 .1 .0 refl)
-five (parts k is) h = absurd (apart 3 (0 ∷ 1 ∷ 2 ∷ 3 ∷ []) (Unit {0}) h .1 .1 .1 .1 .0 refl)
-five (counted k is) h = refl
-
-pub last-form : (b n : ℕ) → n ≡ formIn b → Nested n (0 ∷ 1 ∷ 2 ∷ 3 ∷ []) (Unit {0}) → formIn b ≡ 4
-unfolding formIn
-last-form b n e h = five (body (blockOf b)) (rw e at h)
 
 -- a block that lacks nothing, by its number
 bare : (t : Bool) (n : ℕ) (ns : List ℕ) → empty (cond t [] (n ∷ ns)) ≡ t

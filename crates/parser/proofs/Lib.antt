@@ -2,8 +2,6 @@ pub mod Ahead
 pub mod Taking
 pub mod Listed
 pub mod Begins
-pub mod Unpack
-pub mod Ranges
 pub mod Alike
 pub mod Turning
 pub mod Forms

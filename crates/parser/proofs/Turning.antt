@@ -6,6 +6,7 @@ use lib.ListN.{drop}
 use Rattle.lexer.specs.declared.Token.{Token}
 use Rattle.refusal.specs.declared.Refusal.{Refusal}
 use Rattle.rows.specs.Packed.{itemAt, itemsOf}
+use Rattle.rows.proofs.Unpack.{split, no-items, over}
 use Rattle.grammar.specs.Tokens.{Ahead, Answer, ok, refused, then, next-token}
 use Rattle.grammar.specs.Engine.{Frame, Draft, item, items, passed}
 use Rattle.grammar.specs.Reading.{Mark}
@@ -16,7 +17,6 @@ use Rattle.parser.specs.declared.draft.Drafted.{Drafted}
 use Rattle.parser.specs.declared.draft.Drafted.the-variants as D
 use Rattle.parser.specs.Code.{tokOf, aheadOf, Took, asTaken}
 use Rattle.parser.specs.Drafts.{draftOf, asDrafted, flatly, shown}
-use Rattle.parser.proofs.Unpack.{split, none, over}
 use Rattle.parser.proofs.Alike.{flat-then}
 use Rattle.parser.proofs.Taking.{refused-so, Takes, passes-none, no-item, afterwards, item-so}
 
@@ -63,4 +63,4 @@ module _ (text : List ℕ) (f : Frame ℕ) (b : Draft ℕ) (d : Sketch) (t : Tok
 
 pub end : (text : List ℕ) (f : Frame ℕ) (b : Draft ℕ) (d : Sketch) (t : Token) {s : ℕ} → s ≡ 0 → shown (asDrafted text b (D.Next d t)) ≡ shown (items 0 f (itemsOf s) (draftOf text b d) (aheadOf text t))
 unfolding items
-end text f b d t z = rw (z, none)
+end text f b d t z = rw (z, no-items)

@@ -1,7 +1,7 @@
 -- Inner machinery, which nobody has to believe: what the code's sketch of a record stands for.
 -- The image `asDrafted` forgets of an answer only what a name's length says beyond the text's end. `shown` keeps of a draft what a record file
 -- and a block's name have of it, which is all that a step makes of it.
-use Prim.Native.Nat.{ℕ, _+_}
+use Prim.Native.Nat.{ℕ, _+_, _%_}
 use Prim.Native.String.{String}
 use mathlib.Core.Path.{_≡_}
 use mathlib.Core.Bool.{cond}
@@ -30,21 +30,22 @@ renamed n d =
       first = d .first;
     }
 
--- the draft that a sketch is, with the kind, place and owner of the draft b. A name that is not read is the empty one at 0.
+-- the draft that a sketch is, with the kind, place and owner of the draft b. A name that is not read is the empty one at 0. Of
+-- the code and of the first word the low byte counts.
 abbrev pub draftOf : List ℕ → Draft ℕ → Sketch → Draft ℕ
 draftOf s b d =
     record {
       rec =
           record {
             kind = b .rec .kind;
-            code = d .code;
+            code = d .code % 256;
             at = b .rec .at;
             owner = b .rec .owner;
             name = some (record { bytes = nameIn s (d .name) (d .len); at = d .name; skip = 0 });
             x = d .x;
             y = d .y;
           };
-      first = d .first;
+      first = d .first % 256;
     }
 
 -- nothing but its kind, its place and its owner

@@ -21,14 +21,15 @@ use lexer::Token;
 use refusal::Refusal;
 use rows::item;
 
-// What the items have set so far: where the name stands, the numbers, the code, and the first word of a value.
+// What the items have set so far: where the name stands, the numbers, the code, and the first word of a value. Of these
+// the code and the first word are bytes and have 64 bits each, since a byte just stored is slow to copy as a part of something wider.
 pub struct Sketch {
     pub name: usize,
     pub len: usize,
     pub x: u64,
     pub y: u64,
-    pub code: u8,
-    pub first: u8,
+    pub code: u64,
+    pub first: u64,
 }
 
 // The sketch, and the token then held.

@@ -85,7 +85,7 @@ fn record_of(lent: &&[u8], kind: u8, f: Frame, held: Token, d: Sketch) -> Record
 {
     Record::of(
         kind,
-        d.code,
+        (d.code % 256) as u8,
         held.start,
         owner_of(f),
         d.name,

@@ -2,7 +2,6 @@
 ghost use mathlib.Core.Path.{_≡_};
 ghost use mathlib.Core.List.{List};
 ghost use Prim.Native.Nat.{ℕ, _-_, _≤_, _<_};
-ghost use lib.ListN.{drop};
 ghost use Rattle.grammar.specs.Grammar as G;
 ghost use Rattle.grammar.specs.Tokens.{Ahead};
 ghost use Rattle.grammar.specs.Engine.{Frame as Open, Draft, item, items, passed};
@@ -46,7 +45,7 @@ pub fn items(lent: &&[u8], list: u64, kind: u8, f: Frame, held: Token) -> Drafte
             };
             d = e;
             t = u;
-            s = skip(s / 256, passed(it, u));
+            s = rows::skip(s / 256, passed(it, u));
         } else {
             let a = take::next_near(lent, t);
             let Taken::Next(next) = a else {
@@ -62,20 +61,6 @@ pub fn items(lent: &&[u8], list: u64, kind: u8, f: Frame, held: Token) -> Drafte
         }
     }
     Drafted::Next(d, t)
-}
-
-// A list without its first items.
-fn skip(s: u64, n: u64) -> u64
-    ensures of { λ r. ⌜ itemsOf r ≡ drop n (itemsOf s) ⌝ }
-    ensures less { λ r. ⌜ r ≤ s ⌝ }
-{
-    let mut r = s;
-    let mut m = n;
-    while m != 0 {
-        r /= 256;
-        m -= 1;
-    }
-    r
 }
 
 // How many of the items that follow are passed over.
@@ -113,7 +98,7 @@ fn looked(lent: &&[u8], it: u64, kind: u8, f: Frame, d: Sketch, held: Token) -> 
                 len: d.len,
                 x: d.x,
                 y: d.y,
-                code: (it - item::CODE) as u8,
+                code: it - item::CODE,
                 first: d.first,
             },
             held,

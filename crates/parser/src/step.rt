@@ -8,6 +8,7 @@ ghost use Rattle.parser.specs.Code.{aheadOf};
 ghost use Rattle.parser.specs.Kept.{frameOf};
 ghost use Rattle.parser.specs.Stepped.{asChosen, runsLow, SameAct, stoppedAs, wordedBy};
 ghost use Rattle.grammar.specs.Engine.{get-name};
+ghost use Rattle.grammar.specs.Tokens.{next-token};
 ghost use mathlib.Core.List.{List};
 ghost use Rattle.lexer.specs.declared.Token.{Token};
 ghost use Rattle.parser.specs.declared.open.Frame.{Frame};
@@ -41,14 +42,13 @@ pub fn choose(lent: &&[u8], version: u64, f: Frame, held: Token) -> Chosen
     let form = rows::form_of(block);
     match form {
         form::KEYED => keyed(lent, version, f, held),
-        form::WORDED => worded(lent, version, f, held),
-        form::OPTIONS => options(lent, version, f, held),
         form::PARTS => parts(f, held),
-        _ => counted(f, held),
+        form::COUNTED => counted(f, held),
+        _ => spoken(lent, version, f, held),
     }
 }
 
-// The word is looked at while it is held.
+// The word is looked at while it is held. Most rows hold at every version and take the word.
 fn keyed(lent: &&[u8], version: u64, f: Frame, held: Token) -> Chosen
     ensures of { λ r. ⌜ (formIn (f .block) ≡ 0 → asChosen (now (now (lent .entry))) f held r ≡ T.step version (frameOf (now (now (lent .entry))) f) (aheadOf (now (now (lent .entry))) held) (body (blockOf (f .block)))) ⌝ }
     ensures low { λ r. ⌜ runsLow r ⌝ }
@@ -58,7 +58,23 @@ fn keyed(lent: &&[u8], version: u64, f: Frame, held: Token) -> Chosen
         return Chosen::Refused(peek::peeked_refusal(p, held));
     };
     let block = f.block;
-    let row = settled(version, rows::row_of(block, key));
+    let row = rows::row_of(block, key);
+    if act::CLOSE < row.head % 256 {
+        return perform(lent, version, row, held);
+    }
+    let a = take::next_token(lent, held);
+    let Taken::Next(first) = a else {
+        return Chosen::Refused(take::taken_refusal(a));
+    };
+    Chosen::Runs(row, first)
+}
+
+// What a row does at this version while its word is held.
+fn perform(lent: &&[u8], version: u64, any: Row, held: Token) -> Chosen
+    ensures of { λ r. ⌜ ((f : Frame) → asChosen (now (now (lent .entry))) f held r ≡ T.perform version (frameOf (now (now (lent .entry))) f) (aheadOf (now (now (lent .entry))) held) (next-token (aheadOf (now (now (lent .entry))) held)) (aheadOf (now (now (lent .entry))) held .held .mark) (actOf (any .head) (any .items))) ⌝ }
+    ensures low { λ r. ⌜ runsLow r ⌝ }
+{
+    let row = settled(version, any);
     let act = row.head % 256;
     if act::CLOSE < act {
         return stopped(act, held);
@@ -95,20 +111,21 @@ fn worded(lent: &&[u8], version: u64, f: Frame, held: Token) -> Chosen
     Chosen::Runs(row, first)
 }
 
-// An option, or the `;` that ends them.
-fn options(lent: &&[u8], version: u64, f: Frame, held: Token) -> Chosen
-    ensures of { λ r. ⌜ (formIn (f .block) ≡ 2 → asChosen (now (now (lent .entry))) f held r ≡ T.step version (frameOf (now (now (lent .entry))) f) (aheadOf (now (now (lent .entry))) held) (body (blockOf (f .block)))) ⌝ }
+// A word that is taken, or the `;` that ends options. Both forms of block come here, so that `worded` has one caller.
+fn spoken(lent: &&[u8], version: u64, f: Frame, held: Token) -> Chosen
+    ensures of { λ r. ⌜ ((formIn (f .block) ≡ 0 → ⊥) → (formIn (f .block) ≡ 3 → ⊥) → (formIn (f .block) ≡ 4 → ⊥) → asChosen (now (now (lent .entry))) f held r ≡ T.step version (frameOf (now (now (lent .entry))) f) (aheadOf (now (now (lent .entry))) held) (body (blockOf (f .block)))) ⌝ }
     ensures low { λ r. ⌜ runsLow r ⌝ }
 {
+    let block = f.block;
+    let form = rows::form_of(block);
     let kind = held.kind;
-    if kind != Token::SEMICOLON {
+    if (form != form::OPTIONS) | (kind != Token::SEMICOLON) {
         return worded(lent, version, f, held);
     }
     let a = take::next_token(lent, held);
     let Taken::Next(next) = a else {
         return Chosen::Refused(take::taken_refusal(a));
     };
-    let block = f.block;
     Chosen::Goes(next, rows::after_options(block))
 }
 

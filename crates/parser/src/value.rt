@@ -31,7 +31,7 @@ pub fn to_value(lent: &&[u8], kind: u8, d: Sketch, held: Token, next: Token) -> 
             len: d.len,
             x: d.x,
             y: d.y,
-            code,
+            code: code as u64,
             first: d.first,
         },
         next,
@@ -73,7 +73,7 @@ fn begun(begins: bool, first: u8, d: Sketch, next: Token) -> Drafted
                 x: d.x,
                 y: d.y,
                 code: d.code,
-                first,
+                first: first as u64,
             },
             next,
         );
@@ -85,7 +85,7 @@ fn begun(begins: bool, first: u8, d: Sketch, next: Token) -> Drafted
 pub fn to_second(lent: &&[u8], kind: u8, d: Sketch, held: Token) -> Drafted
     ensures { λ r. ⌜ ((f : Frame ℕ) (b : Draft ℕ) → b .rec .kind ≡ kind → asDrafted (now (now (lent .entry))) b r ≡ flatly (item f G.second (draftOf (now (now (lent .entry))) b d) (aheadOf (now (now (lent .entry))) held))) ⌝ }
 {
-    let a = words::parse_second(lent, held, kind, d.first);
+    let a = words::parse_second(lent, held, kind, (d.first % 256) as u8);
     let Word::Is(code, next) = a else {
         return Drafted::Refused(take::word_refusal(a));
     };
@@ -95,7 +95,7 @@ pub fn to_second(lent: &&[u8], kind: u8, d: Sketch, held: Token) -> Drafted
             len: d.len,
             x: d.x,
             y: d.y,
-            code,
+            code: code as u64,
             first: d.first,
         },
         next,

@@ -245,7 +245,7 @@ fn opened(opens: u64, r: Record) -> Frame
     }
 }
 
-// A block after a record of the kind in it.
+// A block after a record of the kind in it. Most blocks lack nothing, and `without`, which calls itself, is not called for them.
 fn counting(f: Frame, kind: u8) -> Frame
     ensures { λ r. ⌜ ((s : List ℕ) → frameOf s r ≡ T.counting kind (frameOf s f)) ⌝ }
 {
@@ -254,7 +254,11 @@ fn counting(f: Frame, kind: u8) -> Frame
         at: f.at,
         title: f.title,
         len: f.len,
-        lacks: without(kind as u64, f.lacks),
+        lacks: if f.lacks < 256 {
+            f.lacks
+        } else {
+            without(kind as u64, f.lacks)
+        },
     }
 }
 

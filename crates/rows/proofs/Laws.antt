@@ -55,62 +55,23 @@ apart-at n k [] rows h = refl
 apart-at n k (w ∷ ws) [] h = refl
 apart-at n k (w ∷ ws) (r ∷ rs) h = rw (ne-eqb w k (λ e. h .0 (sym e))) (apart-at n k ws rs (h .1))
 
--- the words of a block, by number
-pub record Block-words (lit : ℕ) (b : Body) (ws : List ℕ) : Type 0 where
-  pub is : body (blockOf lit) ≡ b
-  pub words : wordsIn (rowsOf b) ≡ ws
-
-module _ {block : ℕ} (lit : ℕ) (b : Body) (ws : List ℕ) (q : Block-words lit b ws) (e : block ≡ lit) where
-  -- the block has this body, and its words are these numbers
-  looked : (k : ℕ) → actIn block k ≡ actAt (elseOf b) k ws (rowsOf b)
-  unfolding actIn
-  looked k = ap (λ n. lookUp (body (blockOf n)) k) e ∙ ap (λ c. lookUp c k) (q .is) ∙ in-body b k ∙ by-words (elseOf b) k (rowsOf b) ∙ ap (λ us. actAt (elseOf b) k us (rowsOf b)) (q .words)
+-- a block whose words are these numbers
+module _ (b : Body) (ws : List ℕ) (q : wordsIn (rowsOf b) ≡ ws) where
+  looked : (k : ℕ) → lookUp b k ≡ actAt (elseOf b) k ws (rowsOf b)
+  looked k = in-body b k ∙ by-words (elseOf b) k (rowsOf b) ∙ ap (λ us. actAt (elseOf b) k us (rowsOf b)) q
 
   -- an arm for the word u
-  pub arm : {word : ℕ} {act : Act} (u : ℕ) → word ≡ u → act ≡ actAt (elseOf b) u ws (rowsOf b) → act ≡ actIn block word
+  pub arm : {word : ℕ} {act : Act} (u : ℕ) → word ≡ u → act ≡ actAt (elseOf b) u ws (rowsOf b) → act ≡ lookUp b word
   arm {word} u w r = r ∙ ap (λ k. actAt (elseOf b) k ws (rowsOf b)) (sym w) ∙ sym (looked word)
 
   -- the arm for all other words
-  pub rest : (word : ℕ) {act : Act} → Nested word ws (Unit {0}) → act ≡ refuse (elseOf b) → act ≡ actIn block word
+  pub rest : (word : ℕ) {act : Act} → Nested word ws (Unit {0}) → act ≡ refuse (elseOf b) → act ≡ lookUp b word
   rest word h r = r ∙ sym (apart-at (elseOf b) word ws (rowsOf b) (apart word ws (Unit {0}) h .1)) ∙ sym (looked word)
 
--- THE BLOCKS
-
-pub library-rows : Block-words 0 (body Library) (2 ∷ 28 ∷ 29 ∷ 6 ∷ 7 ∷ 30 ∷ 25 ∷ 8 ∷ 31 ∷ 9 ∷ [])
-unfolding keys values words raised upper same firstWhere wordOf blockOf
-library-rows = record { is = refl; words = refl }
-
-pub site-rows : Block-words 2 (body Site) (22 ∷ 23 ∷ 26 ∷ 24 ∷ 9 ∷ [])
-unfolding keys values words raised upper same firstWhere wordOf blockOf
-site-rows = record { is = refl; words = refl }
-
-pub macro-rows : Block-words 4 (body Macro) (22 ∷ 25 ∷ 3 ∷ 4 ∷ 26 ∷ 23 ∷ 5 ∷ 10 ∷ 12 ∷ 9 ∷ [])
-unfolding keys values words raised upper same firstWhere wordOf blockOf
-macro-rows = record { is = refl; words = refl }
-
-pub pin-rows : Block-words 5 (body Pin) (14 ∷ 15 ∷ 16 ∷ 41 ∷ 42 ∷ 43 ∷ 44 ∷ 45 ∷ 46 ∷ 47 ∷ 48 ∷ 49 ∷ 50 ∷ 11 ∷ 51 ∷ 52 ∷ 53 ∷ 54 ∷ 55 ∷ 56 ∷ 9 ∷ [])
-unfolding keys values words raised upper same firstWhere wordOf blockOf
-pin-rows = record { is = refl; words = refl }
-
-pub port-rows : Block-words 6 (body Port) (22 ∷ 13 ∷ 9 ∷ [])
-unfolding keys values words raised upper same firstWhere wordOf blockOf
-port-rows = record { is = refl; words = refl }
-
-pub obs-rows : Block-words 7 (body Obs) (13 ∷ 9 ∷ [])
-unfolding keys values words raised upper same firstWhere wordOf blockOf
-obs-rows = record { is = refl; words = refl }
-
-pub layer-rows : Block-words 9 (body Layer) (21 ∷ 19 ∷ 18 ∷ 17 ∷ 20 ∷ 13 ∷ 9 ∷ [])
-unfolding keys values words raised upper same firstWhere wordOf blockOf
-layer-rows = record { is = refl; words = refl }
-
-pub units-rows : Block-words 1 (body Units) (93 ∷ 95 ∷ 96 ∷ 97 ∷ 69 ∷ 98 ∷ 99 ∷ 100 ∷ 9 ∷ [])
-unfolding keys values words raised upper same firstWhere wordOf blockOf
-units-rows = record { is = refl; words = refl }
-
-pub options-rows : Block-words 8 (body Options) (37 ∷ 39 ∷ 38 ∷ [])
-unfolding keys values words raised upper same firstWhere wordOf blockOf
-options-rows = record { is = refl; words = refl }
+-- a block by its number
+pub in-block : {block : ℕ} {act : Act} (lit word : ℕ) → block ≡ lit → act ≡ lookUp (body (blockOf lit)) word → act ≡ actIn block word
+unfolding actIn
+in-block lit word e h = h ∙ ap (λ n. lookUp (body (blockOf n)) word) (sym e)
 
 -- a block that has no words
 no-words : (p q r : Bool) (k : ℕ) → refuse 0 ≡ lookUp (body (cond p Symmetry (cond q Rect (cond r Polygon Path)))) k

@@ -1,15 +1,18 @@
--- The items of a number, one after the other.
+-- The items of a number, one after the other, and a number that holds no kinds.
 use Prim.Native.Nat.{ℕ, zero, suc, _-_, _/_, _%_, _^_, _<_}
 use mathlib.Core.Path.{_≡_, refl, sym, ap, _∙_}
-use mathlib.Core.Bool.{cond}
+use mathlib.Core.Bool.{Bool, true, false, cond}
 use mathlib.Core.List.{List, [], _∷_}
 use native.Mathlib.Decide.{decLt}
 use native.Mathlib.Omega.{arith}
 use native.Mathlib.Nat.{pow-zero, pow-suc, div-lt-iff-lt-mul}
 use borrow.Author.Tests.{ne-eqb}
-use lib.Dec.{eqb}
+use lib.Dec.{eqb, ltb}
 use lib.ListN.{drop}
-use Rattle.rows.specs.Packed.{itemAt, itemsIn, itemsOf}
+use Rattle.grammar.specs.Grammar.{Item}
+use Rattle.grammar.specs.Tokens.{Ahead}
+use Rattle.grammar.specs.Engine.{Frame, Draft, empty, items}
+use Rattle.rows.specs.Packed.{itemAt, itemsIn, itemsOf, kindsIn, kindsOf}
 
 -- so many bytes suffice
 enough : (n s : ℕ) → s < 256 ^ n → itemsIn (suc n) s ≡ itemsIn n s
@@ -40,3 +43,19 @@ drop-one (suc m) r h n = let e : suc m - 1 ≡ m = omega arith in rw e (elim (de
   | yes p ↦ ap (drop (suc m)) (split r h (λ e. omega arith))
   | no q ↦ let e : r ≡ 0 = omega arith in rw e (drop-none (suc m) ∙ sym (drop-none m))
 ])
+
+-- passing over items is dropping them
+pub over : {A M : Type 0} (m : ℕ) (f : Frame A) (is : List Item) (d : Draft A) (a : Ahead A M) → items m f is d a ≡ items 0 f (drop m is) d a
+unfolding items
+over zero f is d a = refl
+over (suc m) f [] d a = refl
+over (suc m) f (i ∷ is) d a = over m f is d a
+
+-- a number of kinds that is nothing but its mark
+pub no-kinds : (n : ℕ) → empty (kindsOf n) ≡ ltb n 256
+unfolding kindsOf kindsIn empty
+no-kinds n = go (ltb n 256)
+  where
+    go : (p : Bool) → empty (cond p [] (n % 256 ∷ kindsIn 7 (n / 256))) ≡ p
+    go true = refl
+    go false = refl

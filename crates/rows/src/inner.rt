@@ -1,8 +1,15 @@
 // The rows of pins, ports, obstructions and layers, in the order of the grammar's table.
+ghost use mathlib.Core.Path.{_≡_};
+ghost use Rattle.grammar.specs.Grammar.{Pin, Port, Obs, Options, Layer};
+ghost use Rattle.grammar.specs.Table.{body};
+ghost use Rattle.rows.specs.Packed.{actOf, lookUp};
 use crate::Row;
 use crate::act::*;
 use crate::block;
 use crate::item::*;
+use crate::outer::END_NAMED;
+use crate::outer::LATER;
+use crate::outer::UNKNOWN;
 use record::code;
 use record::kind;
 use word::names;
@@ -15,116 +22,181 @@ const AMOUNT: u64 = X
     + S * (IF_MORE + 2 + S * (KEY + (names::LAYER as u64) + S * (NAME + S * SEMI)));
 
 // `parse_pin`
-pub const DIRECTION: Row = Row {
+const DIRECTION: Row = Row {
     head: (kind::DIRECTION as u64),
     items: FIRST_KEY + S * (SECOND + S * SEMI),
 };
 
-pub const USE: Row = Row {
+const USE: Row = Row {
     head: (kind::USE as u64),
     items: VALUE + S * SEMI,
 };
 
-pub const SHAPE: Row = Row {
+const SHAPE: Row = Row {
     head: (kind::SHAPE as u64),
     items: VALUE + S * SEMI,
 };
 
-pub const ANTENNAMODEL: Row = Row {
+const ANTENNAMODEL: Row = Row {
     head: (kind::ANTENNAMODEL as u64),
     items: VALUE,
 };
 
-pub const ANTENNADIFFAREA: Row = Row {
+const ANTENNADIFFAREA: Row = Row {
     head: (kind::ANTENNA as u64),
     items: CODE + 1 + S * AMOUNT,
 };
 
-pub const ANTENNAGATEAREA: Row = Row {
+const ANTENNAGATEAREA: Row = Row {
     head: (kind::ANTENNA as u64),
     items: CODE + 2 + S * AMOUNT,
 };
 
-pub const ANTENNAPARTIALMETALAREA: Row = Row {
+const ANTENNAPARTIALMETALAREA: Row = Row {
     head: (kind::ANTENNA as u64),
     items: CODE + 3 + S * AMOUNT,
 };
 
-pub const ANTENNAPARTIALMETALSIDEAREA: Row = Row {
+const ANTENNAPARTIALMETALSIDEAREA: Row = Row {
     head: (kind::ANTENNA as u64),
     items: CODE + 4 + S * AMOUNT,
 };
 
-pub const ANTENNAPARTIALCUTAREA: Row = Row {
+const ANTENNAPARTIALCUTAREA: Row = Row {
     head: (kind::ANTENNA as u64),
     items: CODE + 5 + S * AMOUNT,
 };
 
-pub const ANTENNAPARTIALDIFFAREA: Row = Row {
+const ANTENNAPARTIALDIFFAREA: Row = Row {
     head: (kind::ANTENNA as u64),
     items: CODE + 6 + S * AMOUNT,
 };
 
-pub const ANTENNAMAXAREACAR: Row = Row {
+const ANTENNAMAXAREACAR: Row = Row {
     head: (kind::ANTENNA as u64),
     items: CODE + 7 + S * AMOUNT,
 };
 
-pub const ANTENNAMAXSIDEAREACAR: Row = Row {
+const ANTENNAMAXSIDEAREACAR: Row = Row {
     head: (kind::ANTENNA as u64),
     items: CODE + 8 + S * AMOUNT,
 };
 
-pub const ANTENNAMAXCUTCAR: Row = Row {
+const ANTENNAMAXCUTCAR: Row = Row {
     head: (kind::ANTENNA as u64),
     items: CODE + 9 + S * AMOUNT,
 };
 
-pub const PORT: Row = Row {
+const PORT: Row = Row {
     head: (kind::PORT as u64) + S * (ENTER + 8 * block::PORT),
     items: 0,
 };
 
+// What a word begins in a PIN.
+pub(crate) fn of_pin(word: u8) -> Row
+    ensures { λ r. ⌜ actOf (r .head) (r .items) ≡ lookUp (body Pin) word ⌝ }
+{
+    match word {
+        names::DIRECTION => DIRECTION,
+        names::USE => USE,
+        names::SHAPE => SHAPE,
+        names::ANTENNAMODEL => ANTENNAMODEL,
+        names::ANTENNADIFFAREA => ANTENNADIFFAREA,
+        names::ANTENNAGATEAREA => ANTENNAGATEAREA,
+        names::ANTENNAPARTIALMETALAREA => ANTENNAPARTIALMETALAREA,
+        names::ANTENNAPARTIALMETALSIDEAREA => ANTENNAPARTIALMETALSIDEAREA,
+        names::ANTENNAPARTIALCUTAREA => ANTENNAPARTIALCUTAREA,
+        names::ANTENNAPARTIALDIFFAREA => ANTENNAPARTIALDIFFAREA,
+        names::ANTENNAMAXAREACAR => ANTENNAMAXAREACAR,
+        names::ANTENNAMAXSIDEAREACAR => ANTENNAMAXSIDEAREACAR,
+        names::ANTENNAMAXCUTCAR => ANTENNAMAXCUTCAR,
+        names::PORT => PORT,
+        names::TAPERRULE => LATER,
+        names::NETEXPR => LATER,
+        names::SUPPLYSENSITIVITY => LATER,
+        names::GROUNDSENSITIVITY => LATER,
+        names::MUSTJOIN => LATER,
+        names::PROPERTY => LATER,
+        names::END => END_NAMED,
+        _ => UNKNOWN,
+    }
+}
+
 // What a layer is made of in a port or among the obstructions: `parse_layer_geometries`
-pub const LAYER: Row = Row {
+const LAYER: Row = Row {
     head: (kind::LAYER as u64) + S * (ENTER + 8 * block::OPTIONS),
     items: NAME,
 };
 
 // `parse_port`, `parse_obstructions`
-pub const PORT_CLASS: Row = Row {
+const PORT_CLASS: Row = Row {
     head: (kind::PORT_CLASS as u64),
     items: VALUE + S * SEMI,
 };
 
-pub const END: Row = Row {
+const END: Row = Row {
     head: CLOSE,
     items: 0,
 };
 
+// What a word begins in a PORT.
+pub(crate) fn of_port(word: u8) -> Row
+    ensures { λ r. ⌜ actOf (r .head) (r .items) ≡ lookUp (body Port) word ⌝ }
+{
+    match word {
+        names::CLASS => PORT_CLASS,
+        names::LAYER => LAYER,
+        names::END => END,
+        _ => UNKNOWN,
+    }
+}
+
+// What a word begins in an OBS.
+pub(crate) fn of_obs(word: u8) -> Row
+    ensures { λ r. ⌜ actOf (r .head) (r .items) ≡ lookUp (body Obs) word ⌝ }
+{
+    match word {
+        names::LAYER => LAYER,
+        names::END => END,
+        _ => UNKNOWN,
+    }
+}
+
 // `parse_layer_geometries`: the options of the LAYER line
-pub const EXCEPTPGNET: Row = Row {
+const EXCEPTPGNET: Row = Row {
     head: (kind::LAYER_OPTION as u64),
     items: CODE + (code::EXCEPTPGNET as u64),
 };
 
-pub const SPACING: Row = Row {
+const SPACING: Row = Row {
     head: (kind::LAYER_OPTION as u64),
     items: CODE + (code::SPACING as u64) + S * X,
 };
 
-pub const DESIGNRULEWIDTH: Row = Row {
+const DESIGNRULEWIDTH: Row = Row {
     head: (kind::LAYER_OPTION as u64),
     items: CODE + (code::DESIGNRULEWIDTH as u64) + S * X,
 };
 
-// and the body, which ends before a LAYER or an END
-pub const WIDTH: Row = Row {
+// What a word begins in a LAYER's options.
+pub(crate) fn of_options(word: u8) -> Row
+    ensures { λ r. ⌜ actOf (r .head) (r .items) ≡ lookUp (body Options) word ⌝ }
+{
+    match word {
+        names::EXCEPTPGNET => EXCEPTPGNET,
+        names::SPACING => SPACING,
+        names::DESIGNRULEWIDTH => DESIGNRULEWIDTH,
+        _ => UNKNOWN,
+    }
+}
+
+// The body of a layer, which ends before a LAYER or an END
+const WIDTH: Row = Row {
     head: (kind::WIDTH as u64),
     items: X + S * SEMI,
 };
 
-pub const RECT: Row = Row {
+const RECT: Row = Row {
     head: (kind::RECT as u64)
         + S
             * (ENTER
@@ -133,7 +205,7 @@ pub const RECT: Row = Row {
     items: NO_NAME,
 };
 
-pub const POLYGON: Row = Row {
+const POLYGON: Row = Row {
     head: (kind::POLYGON as u64)
         + S
             * (ENTER
@@ -144,7 +216,7 @@ pub const POLYGON: Row = Row {
     items: 0,
 };
 
-pub const PATH: Row = Row {
+const PATH: Row = Row {
     head: (kind::PATH as u64)
         + S
             * (ENTER
@@ -153,15 +225,31 @@ pub const PATH: Row = Row {
     items: 0,
 };
 
-pub const VIA: Row = Row {
+const VIA: Row = Row {
     head: (kind::VIA as u64),
     items: NO_NAME + S * (X + S * (Y + S * (NAME + S * SEMI))),
 };
 
-pub const BEFORE: Row = Row {
+const BEFORE: Row = Row {
     head: BACK,
     items: 0,
 };
+
+// What a word begins in a LAYER.
+pub(crate) fn of_layer(word: u8) -> Row
+    ensures { λ r. ⌜ actOf (r .head) (r .items) ≡ lookUp (body Layer) word ⌝ }
+{
+    match word {
+        names::WIDTH => WIDTH,
+        names::RECT => RECT,
+        names::POLYGON => POLYGON,
+        names::PATH => PATH,
+        names::VIA => VIA,
+        names::LAYER => BEFORE,
+        names::END => BEFORE,
+        _ => UNKNOWN,
+    }
+}
 
 // `parse_geometry`: two points, at least three, at least two
 pub const POINT: Row = Row {

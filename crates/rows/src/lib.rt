@@ -1,9 +1,22 @@
 // THE TABLE: what each word begins in each block, beside crates/grammar/specs/Table.antt line by line.
 ghost use mathlib.Core.Path.{_≡_};
-ghost use Rattle.rows.specs.Packed.{actOf, blockOf, actIn, formIn, partIn, endIn, afterIn};
-use crate::inner::*;
-use crate::outer::*;
-use word::names;
+ghost use Prim.Native.Nat.{_≤_};
+ghost use lib.ListN.{drop};
+ghost use Rattle.rows.specs.Packed.{itemsOf, actOf, blockOf, actIn, formIn, partIn, endIn, afterIn};
+use crate::inner::END_COUNTED;
+use crate::inner::END_PARTS;
+use crate::inner::POINT;
+use crate::inner::of_layer;
+use crate::inner::of_obs;
+use crate::inner::of_options;
+use crate::inner::of_pin;
+use crate::inner::of_port;
+use crate::outer::NONE;
+use crate::outer::SYMMETRY_WORD;
+use crate::outer::of_library;
+use crate::outer::of_macro;
+use crate::outer::of_site;
+use crate::outer::of_units;
 
 pub mod act;
 pub mod block;
@@ -23,103 +36,15 @@ pub fn row_of(block: u64, word: u8) -> Row
     ensures { λ r. ⌜ actOf (r .head) (r .items) ≡ actIn block word ⌝ }
 {
     match block {
-        block::LIBRARY => match word {
-            names::VERSION => VERSION_ROW,
-            names::BUSBITCHARS => BUSBITCHARS,
-            names::DIVIDERCHAR => DIVIDERCHAR,
-            names::NAMESCASESENSITIVE => NAMESCASESENSITIVE,
-            names::NOWIREEXTENSIONATPIN => NOWIREEXTENSIONATPIN,
-            names::UNITS => UNITS,
-            names::SITE => SITE,
-            names::MACRO => MACRO,
-            names::BEGINEXT => LATER,
-            names::END => END_LIBRARY,
-            _ => UNKNOWN,
-        },
-        block::UNITS => match word {
-            names::DATABASE => DATABASE,
-            names::TIME => LATER,
-            names::CAPACITANCE => LATER,
-            names::RESISTANCE => LATER,
-            names::POWER => LATER,
-            names::CURRENT => LATER,
-            names::VOLTAGE => LATER,
-            names::FREQUENCY => LATER,
-            names::END => END_UNITS,
-            _ => UNKNOWN,
-        },
-        block::SITE => match word {
-            names::CLASS => SITE_CLASS,
-            names::SYMMETRY => SYMMETRY,
-            names::SIZE => SIZE,
-            names::ROWPATTERN => LATER,
-            names::END => END_SITE,
-            _ => SITE_ELSE,
-        },
-        block::MACRO => match word {
-            names::CLASS => MACRO_CLASS,
-            names::SITE => MACRO_SITE,
-            names::FOREIGN => FOREIGN,
-            names::ORIGIN => ORIGIN,
-            names::SIZE => SIZE,
-            names::SYMMETRY => SYMMETRY,
-            names::SOURCE => SOURCE,
-            names::PIN => PIN,
-            names::OBS => OBS,
-            names::END => END_NAMED,
-            _ => UNKNOWN,
-        },
-        block::PIN => match word {
-            names::DIRECTION => DIRECTION,
-            names::USE => USE,
-            names::SHAPE => SHAPE,
-            names::ANTENNAMODEL => ANTENNAMODEL,
-            names::ANTENNADIFFAREA => ANTENNADIFFAREA,
-            names::ANTENNAGATEAREA => ANTENNAGATEAREA,
-            names::ANTENNAPARTIALMETALAREA => ANTENNAPARTIALMETALAREA,
-            names::ANTENNAPARTIALMETALSIDEAREA => ANTENNAPARTIALMETALSIDEAREA,
-            names::ANTENNAPARTIALCUTAREA => ANTENNAPARTIALCUTAREA,
-            names::ANTENNAPARTIALDIFFAREA => ANTENNAPARTIALDIFFAREA,
-            names::ANTENNAMAXAREACAR => ANTENNAMAXAREACAR,
-            names::ANTENNAMAXSIDEAREACAR => ANTENNAMAXSIDEAREACAR,
-            names::ANTENNAMAXCUTCAR => ANTENNAMAXCUTCAR,
-            names::PORT => PORT,
-            names::TAPERRULE => LATER,
-            names::NETEXPR => LATER,
-            names::SUPPLYSENSITIVITY => LATER,
-            names::GROUNDSENSITIVITY => LATER,
-            names::MUSTJOIN => LATER,
-            names::PROPERTY => LATER,
-            names::END => END_NAMED,
-            _ => UNKNOWN,
-        },
-        block::PORT => match word {
-            names::CLASS => PORT_CLASS,
-            names::LAYER => LAYER,
-            names::END => END,
-            _ => UNKNOWN,
-        },
-        block::OBS => match word {
-            names::LAYER => LAYER,
-            names::END => END,
-            _ => UNKNOWN,
-        },
-        block::OPTIONS => match word {
-            names::EXCEPTPGNET => EXCEPTPGNET,
-            names::SPACING => SPACING,
-            names::DESIGNRULEWIDTH => DESIGNRULEWIDTH,
-            _ => UNKNOWN,
-        },
-        block::LAYER => match word {
-            names::WIDTH => WIDTH,
-            names::RECT => RECT,
-            names::POLYGON => POLYGON,
-            names::PATH => PATH,
-            names::VIA => VIA,
-            names::LAYER => BEFORE,
-            names::END => BEFORE,
-            _ => UNKNOWN,
-        },
+        block::LIBRARY => of_library(word),
+        block::UNITS => of_units(word),
+        block::SITE => of_site(word),
+        block::MACRO => of_macro(word),
+        block::PIN => of_pin(word),
+        block::PORT => of_port(word),
+        block::OBS => of_obs(word),
+        block::OPTIONS => of_options(word),
+        block::LAYER => of_layer(word),
         _ => NONE,
     }
 }
@@ -179,4 +104,18 @@ pub fn after_options(block: u64) -> u64
 {
     let body = block::LAYER;
     body
+}
+
+// The items of a row without the first n.
+pub fn skip(items: u64, n: u64) -> u64
+    ensures of { λ r. ⌜ itemsOf r ≡ drop n (itemsOf items) ⌝ }
+    ensures less { λ r. ⌜ r ≤ items ⌝ }
+{
+    let mut r = items;
+    let mut m = n;
+    while m != 0 {
+        r /= 256;
+        m -= 1;
+    }
+    r
 }

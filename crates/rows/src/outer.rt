@@ -1,4 +1,8 @@
 // The rows of the library, its units, its sites and its macros, in the order of the grammar's table.
+ghost use mathlib.Core.Path.{_≡_};
+ghost use Rattle.grammar.specs.Grammar.{Library, Units, Site, Macro};
+ghost use Rattle.grammar.specs.Table.{body};
+ghost use Rattle.rows.specs.Packed.{actOf, lookUp};
 use crate::Row;
 use crate::act::*;
 use crate::block;
@@ -27,49 +31,49 @@ pub const NONE: Row = Row {
 };
 
 // `parse_size`
-pub const SIZE: Row = Row {
+const SIZE: Row = Row {
     head: (kind::SIZE as u64),
     items: X + S * (KEY + (names::BY as u64) + S * (Y + S * SEMI)),
 };
 
 // `parse_symmetries`: the words up to the `;`
-pub const SYMMETRY: Row = Row {
+const SYMMETRY: Row = Row {
     head: (kind::SYMMETRY as u64) + S * (ENTER + 8 * block::SYMMETRY),
     items: 0,
 };
 
 // `parse_lib`
-pub const VERSION_ROW: Row = Row {
+const VERSION_ROW: Row = Row {
     head: (kind::VERSION as u64) + S * (VERSION),
     items: X + S * (SEMI + S * VERSIONS),
 };
 
-pub const BUSBITCHARS: Row = Row {
+const BUSBITCHARS: Row = Row {
     head: (kind::BUSBITCHARS as u64),
     items: STRING + 2 + S * SEMI,
 };
 
-pub const DIVIDERCHAR: Row = Row {
+const DIVIDERCHAR: Row = Row {
     head: (kind::DIVIDERCHAR as u64),
     items: STRING + 1 + S * SEMI,
 };
 
-pub const NAMESCASESENSITIVE: Row = Row {
+const NAMESCASESENSITIVE: Row = Row {
     head: (kind::NAMESCASESENSITIVE as u64) + UP_TO_54,
     items: VALUE + S * SEMI,
 };
 
-pub const NOWIREEXTENSIONATPIN: Row = Row {
+const NOWIREEXTENSIONATPIN: Row = Row {
     head: (kind::NOWIREEXTENSIONATPIN as u64),
     items: VALUE + S * SEMI,
 };
 
-pub const UNITS: Row = Row {
+const UNITS: Row = Row {
     head: (kind::UNITS as u64) + S * (ENTER + 8 * block::UNITS),
     items: 0,
 };
 
-pub const SITE: Row = Row {
+const SITE: Row = Row {
     head: (kind::SITE as u64)
         + S
             * (NAMED
@@ -78,42 +82,93 @@ pub const SITE: Row = Row {
     items: NAME,
 };
 
-pub const MACRO: Row = Row {
+const MACRO: Row = Row {
     head: (kind::MACRO as u64) + S * (NAMED + 8 * block::MACRO),
     items: NAME,
 };
 
-pub const END_LIBRARY: Row = Row {
+const END_LIBRARY: Row = Row {
     head: CLOSE,
     items: KEY + (names::LIBRARY as u64),
 };
 
+// What a word begins in the library.
+pub(crate) fn of_library(word: u8) -> Row
+    ensures { λ r. ⌜ actOf (r .head) (r .items) ≡ lookUp (body Library) word ⌝ }
+{
+    match word {
+        names::VERSION => VERSION_ROW,
+        names::BUSBITCHARS => BUSBITCHARS,
+        names::DIVIDERCHAR => DIVIDERCHAR,
+        names::NAMESCASESENSITIVE => NAMESCASESENSITIVE,
+        names::NOWIREEXTENSIONATPIN => NOWIREEXTENSIONATPIN,
+        names::UNITS => UNITS,
+        names::SITE => SITE,
+        names::MACRO => MACRO,
+        names::BEGINEXT => LATER,
+        names::END => END_LIBRARY,
+        _ => UNKNOWN,
+    }
+}
+
 // `parse_units`
-pub const DATABASE: Row = Row {
+const DATABASE: Row = Row {
     head: (kind::DATABASE as u64),
     items: WORD_MICRONS + S * (X + S * (SEMI + S * MICRONS)),
 };
 
-pub const END_UNITS: Row = Row {
+const END_UNITS: Row = Row {
     head: CLOSE,
     items: WORD_UNITS,
 };
 
+// What a word begins in UNITS.
+pub(crate) fn of_units(word: u8) -> Row
+    ensures { λ r. ⌜ actOf (r .head) (r .items) ≡ lookUp (body Units) word ⌝ }
+{
+    match word {
+        names::DATABASE => DATABASE,
+        names::TIME => LATER,
+        names::CAPACITANCE => LATER,
+        names::RESISTANCE => LATER,
+        names::POWER => LATER,
+        names::CURRENT => LATER,
+        names::VOLTAGE => LATER,
+        names::FREQUENCY => LATER,
+        names::END => END_UNITS,
+        _ => UNKNOWN,
+    }
+}
+
 // `parse_site_def`: CLASS and SIZE must both occur
-pub const SITE_CLASS: Row = Row {
+const SITE_CLASS: Row = Row {
     head: (kind::SITE_CLASS as u64),
     items: VALUE + S * SEMI,
 };
 
-pub const SITE_ELSE: Row = Row {
+const SITE_ELSE: Row = Row {
     head: REFUSE + 6,
     items: 0,
 };
 
-pub const END_SITE: Row = Row {
+const END_SITE: Row = Row {
     head: CLOSE,
     items: OWN + S * (WHOLE + 10),
 };
+
+// What a word begins in a SITE.
+pub(crate) fn of_site(word: u8) -> Row
+    ensures { λ r. ⌜ actOf (r .head) (r .items) ≡ lookUp (body Site) word ⌝ }
+{
+    match word {
+        names::CLASS => SITE_CLASS,
+        names::SYMMETRY => SYMMETRY,
+        names::SIZE => SIZE,
+        names::ROWPATTERN => LATER,
+        names::END => END_SITE,
+        _ => SITE_ELSE,
+    }
+}
 
 // The words of a SYMMETRY
 pub const SYMMETRY_WORD: Row = Row {
@@ -122,17 +177,17 @@ pub const SYMMETRY_WORD: Row = Row {
 };
 
 // `parse_macro`, but that SOURCE, which it reads, is refused while it is still held
-pub const MACRO_CLASS: Row = Row {
+const MACRO_CLASS: Row = Row {
     head: (kind::MACRO_CLASS as u64),
     items: FIRST + S * (SECOND + S * SEMI),
 };
 
-pub const MACRO_SITE: Row = Row {
+const MACRO_SITE: Row = Row {
     head: (kind::MACRO_SITE as u64),
     items: NAME + S * SEMI,
 };
 
-pub const FOREIGN: Row = Row {
+const FOREIGN: Row = Row {
     head: (kind::FOREIGN as u64),
     items: NAME
         + S
@@ -148,22 +203,22 @@ pub const FOREIGN: Row = Row {
                                         + S * (NO_NAME + S * SEMI))))),
 };
 
-pub const ORIGIN: Row = Row {
+const ORIGIN: Row = Row {
     head: (kind::ORIGIN as u64),
     items: X + S * (Y + S * SEMI),
 };
 
-pub const SOURCE: Row = Row {
+const SOURCE: Row = Row {
     head: REFUSE + 8 + UP_TO_54,
     items: 0,
 };
 
-pub const PIN: Row = Row {
+const PIN: Row = Row {
     head: (kind::PIN as u64) + S * (NAMED + 8 * block::PIN),
     items: NAME,
 };
 
-pub const OBS: Row = Row {
+const OBS: Row = Row {
     head: (kind::OBS as u64) + S * (ENTER + 8 * block::OBS),
     items: 0,
 };
@@ -172,3 +227,22 @@ pub const END_NAMED: Row = Row {
     head: CLOSE,
     items: OWN,
 };
+
+// What a word begins in a MACRO.
+pub(crate) fn of_macro(word: u8) -> Row
+    ensures { λ r. ⌜ actOf (r .head) (r .items) ≡ lookUp (body Macro) word ⌝ }
+{
+    match word {
+        names::CLASS => MACRO_CLASS,
+        names::SITE => MACRO_SITE,
+        names::FOREIGN => FOREIGN,
+        names::ORIGIN => ORIGIN,
+        names::SIZE => SIZE,
+        names::SYMMETRY => SYMMETRY,
+        names::SOURCE => SOURCE,
+        names::PIN => PIN,
+        names::OBS => OBS,
+        names::END => END_NAMED,
+        _ => UNKNOWN,
+    }
+}

@@ -1,13 +1,13 @@
 -- A block takes a record in the form that the table gives it there. What the record opens stands deeper, by one test of the forms of each block.
-use Prim.Native.Nat.{ℕ, _≤_}
+use Prim.Native.Nat.{ℕ, _≤_, _<_}
 use native.Mathlib.Decide.{ℕ-discrete}
 use native.Mathlib.Omega.{arith}
 use mathlib.Core.Path.{_≡_, refl, sym, ap, _∙_}
 use mathlib.Core.Bool.{Bool, true, false, cond, _&&_}
-use mathlib.Core.List.{List, [], _∷_}
-use lib.Dec.{ltb}
+use mathlib.Core.List.{List, [], _∷_, append-nil}
+use lib.Dec.{eqb, ltb}
 use lib.ListN.{length}
-use borrow.Author.Tests.{ltb-true}
+use borrow.Author.Tests.{eq-eqb, ltb-true}
 use Rattle.word.proofs.Words.{both}
 use Rattle.grammar.specs.Grammar.{Block, Library, Units, Site, Symmetry, Macro, Pin, Port, Obs, Options, Layer, Rect, Polygon, Path, Move, stay, enter, named, version}
 use Rattle.grammar.specs.Table.{body}
@@ -27,6 +27,9 @@ use Rattle.lines.specs.declared.form.Formed.{Formed}
 use Rattle.lines.specs.declared.form.Formed.the-variants as F
 use Rattle.lines.specs.Put.{greatest, Put}
 use Rattle.lines.specs.Formed.{asFormed}
+use Rattle.lines.proofs.Laws.{put-as}
+use Rattle.lines.proofs.Pieced.{pieces-then}
+use Rattle.writer.specs.declared.pen.Taken.{Taken}
 use Rattle.writer.specs.Penned.{Settled}
 use Rattle.writer.proofs.Ending.{nothing-put}
 
@@ -72,6 +75,16 @@ steady Rect h f e = (rw e, rw e)
 steady Polygon h f e = (rw e, rw e)
 steady Path h f e = (rw e, rw e)
 
+-- a layer is as it was, whatever form the record has there
+layer-steady : (f : Frame ℕ) → f .block ≡ Layer → (m : Maybe Form) → (takenBy f m ≡ f) × (before f m ≡ [])
+unfolding formOf
+layer-steady f e none = steady Layer (λ z. omega arith) f e
+layer-steady f e (some m) = (refl, refl)
+
+-- how often the block with that number can still turn into another
+unfoldable pub turns : ℕ → ℕ
+turns b = cond (eqb (P.formIn b) 2) 1 0
+
 -- the block after them, by its number
 module _ (b next : ℕ) (h : P.formIn b ≡ 2) (n : blockOf next ≡ afterIn b) where
   pub the-options : blockOf b ≡ Options
@@ -89,6 +102,27 @@ module _ (b next : ℕ) (h : P.formIn b ≡ 2) (n : blockOf next ≡ afterIn b) 
   pub not-first-then : next ≡ 0 → ⊥
   unfolding blockOf
   not-first-then e = let z : rank Library ≡ rank Layer = ap rank (rw e at the-layer) in omega arith
+
+-- the options of o have turned into the block `next`, in p
+abbrev pub Turned : List ℕ → Open → ℕ → Open → Type 0
+Turned s o next p =
+    (outer : List ℕ) → (o .inner .block ≡ 0 → ⊥) → (next ≡ 0 → ⊥)
+    → blocksOf s p outer ≡ T.state (o .version) (T.become (blockOf next) (frameOf s (o .inner)) ∷ framesIn s (o .depth) outer)
+
+module _ (s : List ℕ) (o : Open) (next : ℕ) (h : P.formIn (o .inner .block) ≡ 2) (n : blockOf next ≡ afterIn (o .inner .block))
+    (p : Open) (l : Turned s o next p) where
+  turned-blocks : (outer : List ℕ) → blocksOf s p outer ≡ T.state (o .version) (T.become (blockOf next) (frameOf s (o .inner)) ∷ framesIn s (o .depth) outer)
+  turned-blocks outer = l outer (not-first (o .inner .block) next h n) (not-first-then (o .inner .block) next h n)
+
+  turned-inner : frameOf s (p .inner) ≡ T.become (blockOf next) (frameOf s (o .inner))
+  turned-inner = let z = ap (λ t. t .blocks) (turned-blocks []) in cc
+
+  turned-layer : blockOf (p .inner .block) ≡ Layer
+  turned-layer = ap (λ f. f .block) turned-inner ∙ the-layer (o .inner .block) next h n
+
+  pub fewer-turns : turns (p .inner .block) < turns (o .inner .block)
+  unfolding turns P.formIn formOf
+  fewer-turns = rw (turned-layer, eq-eqb _ _ h) (omega arith)
 
 module _ (s : List ℕ) (o : Open) (r : Plain) (out : List ℕ) (at : ℕ) (x : Formed) where
   abbrev inner : Frame ℕ
@@ -122,16 +156,16 @@ module _ (s : List ℕ) (o : Open) (r : Plain) (out : List ℕ) (at : ℕ) (x : 
         let z : formIn inner r ≡ none = rw none-there at q in
         rw (z, the-options (o .inner .block) next h n, the-layer (o .inner .block) next h n)
 
-    pub settled-line : (to : ℕ) (exit : List ℕ) → Put out at (text lineEnd) to exit → (p : Open)
-        → ((outer : List ℕ) → (o .inner .block ≡ 0 → ⊥) → (next ≡ 0 → ⊥) → blocksOf s p outer ≡ T.state (o .version) (T.become (blockOf next) inner ∷ framesIn s (o .depth) outer))
-        → (y : Formed) → ((f : Frame ℕ) → f .block ≡ blockOf next → formIn f r ≡ asFormed (r .kind) y)
-        → Settled s o r out at (record { «open» = p; at = to; formed = y }) exit
-    settled-line to exit w p l y g =
+    pub settled-line : (to : ℕ) (exit : List ℕ) → Put out at (text lineEnd) to exit → (p : Open) → Turned s o next p
+        → (t : Taken) (last : List ℕ) → Settled s p r exit to t last → Settled s o r out at t last
+    settled-line to exit w p l t last k =
         let z : formIn inner r ≡ none = rw none-there at q in
+        let g = layer-steady (frameOf s (p .inner)) (turned-layer s o next h n p l) (formIn (frameOf s (p .inner)) r) in
+        let e : taking (frameOf s (p .inner)) r ≡ taking inner r = g .0 ∙ turned-inner s o next h n p l ∙ sym after-them in
         record {
-          put = rw (z, the-options (o .inner .block) next h n) w;
-          blocks = λ outer. l outer (not-first (o .inner .block) next h n) (not-first-then (o .inner .block) next h n) ∙ ap (λ f. T.state (o .version) (f ∷ framesIn s (o .depth) outer)) (sym after-them);
-          formed = g (taking inner r) (ap (λ f. f .block) after-them);
+          put = rw (z, the-options (o .inner .block) next h n) (put-as (ap text (append-nil lineEnd)) (pieces-then lineEnd [] w (put-as (ap text (g .1)) (k .put))));
+          blocks = λ outer. k .blocks outer ∙ ap (λ f. T.state (p .version) (f ∷ framesIn s (p .depth) outer)) (g .0) ∙ turned-blocks s o next h n p l outer ∙ ap (λ f. T.state (o .version) (f ∷ framesIn s (o .depth) outer)) (sym after-them);
+          formed = ap (λ f. formIn f r) (sym e) ∙ k .formed;
         }
 
 -- the block as it takes the record stands no deeper than it can

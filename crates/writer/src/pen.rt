@@ -180,32 +180,32 @@ fn reach_owner(text: &[u8], o: Open, outer: &[u64; 25], r: Record, out: &mut [u8
     }
 }
 
-// The line of a layer's options ends before a record that is none.
+// The line of a layer's options ends before a record that is none. After options comes a block that has none, so it turns at most once;
+// one place asks for the form, whose answer would else go through memory.
 fn settle(o: Open, r: Record, out: &mut [u8], at: usize) -> Taken
     ensures { λ p. ⌜ ((s : List ℕ) → Settled s o (bare s r) (now (out .entry)) at p (now (out .exit))) ⌝ }
 {
-    let f = o.inner;
-    let formed = form_for(f.block, r.kind(), r.code());
-    if let Formed::In(_, _) = formed {
-        return Taken {
-            open: o,
-            at,
-            formed,
-        };
-    }
-    if rows::form_of(f.block) != form::OPTIONS {
-        return Taken {
-            open: o,
-            at,
-            formed,
-        };
-    }
-    let to = end_statement(out, at);
-    let next = rows::after_options(f.block);
-    Taken {
-        open: turned(o, next),
-        at: to,
-        formed: form_for(next, r.kind(), r.code()),
+    let mut open = o;
+    let mut p = at;
+    loop {
+        let f = open.inner;
+        let formed = form_for(f.block, r.kind(), r.code());
+        if let Formed::In(_, _) = formed {
+            break Taken {
+                open,
+                at: p,
+                formed,
+            };
+        }
+        if rows::form_of(f.block) != form::OPTIONS {
+            break Taken {
+                open,
+                at: p,
+                formed,
+            };
+        }
+        p = end_statement(out, p);
+        open = turned(open, rows::after_options(f.block));
     }
 }
 

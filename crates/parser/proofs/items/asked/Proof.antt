@@ -2,7 +2,7 @@
 use Prim.Native.Nat.{_-_}
 use borrow.Author.Needs.{needs}
 use Rattle.rows.specs.Packed.{keyAt}
-use Rattle.parser.proofs.Ranges.{at-key}
+use Rattle.rows.proofs.Ranges.{at-key}
 use Rattle.parser.proofs.items.asked.Statement.{statement}
 use Rattle.parser.proofs.items.asked.Tie as tie
 

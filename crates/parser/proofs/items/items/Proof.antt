@@ -7,11 +7,11 @@ use borrow.Author.Needs.{needs}
 use denote.Ref.{now}
 use Rattle.grammar.specs.Engine.{Draft, items}
 use Rattle.rows.specs.Packed.{itemsOf}
+use Rattle.rows.proofs.Ranges.{looked-at, taken-at}
 use Rattle.parser.specs.Code.{aheadOf}
 use Rattle.parser.specs.Kept.{frameOf}
 use Rattle.parser.specs.Drafts.{draftOf, shown, emptied}
 use Rattle.parser.proofs.Alike.{from-empty}
-use Rattle.parser.proofs.Ranges.{looked-at, taken-at}
 use Rattle.parser.proofs.Taking.{took-so, takes-at}
 use Rattle.parser.proofs.Turning.{stop, go, untaken, onward, end}
 use Rattle.parser.proofs.items.items.Statement.{statement}

@@ -1,11 +1,13 @@
 -- `parser::items::judged` meets its contract: an arm for each item.
 use mathlib.Core.Path.{_≡_, refl}
 use mathlib.Core.Logic.{⊎-elim}
+use mathlib.Core.List.{[], _∷_}
 use native.Mathlib.Omega.{arith}
 use native.Mathlib.Decide.{decLt}
 use borrow.Author.Needs.{needs}
+use Rattle.word.proofs.Steps.{apart}
 use Rattle.rows.specs.Packed.{itemAt}
-use Rattle.parser.proofs.Ranges.{at-semi, low-at}
+use Rattle.rows.proofs.Ranges.{at-semi, low-at}
 use Rattle.parser.proofs.items.judged.Statement.{statement}
 use Rattle.parser.proofs.items.judged.Tie as tie
 
@@ -25,7 +27,8 @@ rest c b o h k g =
     let n = c .before .before .before .args .it in
     let p : n ≡ 1 → ⊥ = λ e. ⊎-elim (λ t. omega (arith, t .taken)) (λ t. omega (arith, t .1 .left)) (c .before .if1 .came) in
     let q : n ≡ 2 → ⊥ = λ e. ⊎-elim (λ t. omega (arith, t .taken)) (λ t. omega (arith, t .1 .left)) (c .before .if1 .came) in
-    c .asked .ensures _ b o h (λ l. at-semi n (c .before .before .match .rest) p q (low-at n g l))
+    let r = apart n (5 ∷ 6 ∷ 7 ∷ 8 ∷ 9 ∷ []) (Unit {0}) (c .before .before .match .rest) .1 in
+    c .asked .ensures _ b o h (λ l. at-semi n (low-at n g l) (p, (q, r)))
 
 pub judged-spec : {M : Type 1} → statement M
 unfolding itemAt

@@ -1,7 +1,7 @@
 -- `parser::items::key_of` meets its contract: the key words have the numbers from 1 on, and past them there is none.
 use native.Mathlib.Omega.{arith}
 use borrow.Author.Needs.{needs}
-use Rattle.parser.proofs.Ranges.{key-number, past-number}
+use Rattle.rows.proofs.Ranges.{key-number, past-number}
 use Rattle.parser.proofs.items.key_of.Statement.{statement}
 use Rattle.parser.proofs.items.key_of.Tie as tie
 

@@ -1,15 +1,21 @@
 -- `parser::items::looked` meets its contract: the items by the ranges of their bytes.
+use Prim.Native.Nat.{_-_, _%_}
+use mathlib.Core.Path.{_≡_}
+use native.Mathlib.Omega.{arith}
 use borrow.Author.Needs.{needs}
 use Rattle.grammar.specs.Engine.{item}
-use Rattle.parser.proofs.Unpack.{no-kinds}
-use Rattle.parser.proofs.Ranges.{at-no-name, at-second, at-code, at-more, at-whole}
+use Rattle.rows.proofs.Unpack.{no-kinds}
+use Rattle.rows.proofs.Ranges.{at-no-name, at-second, at-code, at-more, at-whole}
 use Rattle.parser.proofs.items.looked.Statement.{statement}
 use Rattle.parser.proofs.items.looked.Tie as tie
 
 -- a code, and nothing
 code : tie.Need-returns-3
 unfolding item
-code c b k h l = rw (at-code _ (c .before .if2 .left) (c .if3 .taken))
+code c b k h l =
+    let n = c .before .before .before .args .it in
+    let e : (n - 32) % 256 ≡ n - 32 = omega arith in
+    rw (at-code n (c .before .if2 .left) (c .if3 .taken), e)
 
 more : tie.Need-returns-4
 unfolding item
@@ -23,7 +29,6 @@ looked-spec =
     (λ c b k h l. rw (at-no-name _ (c .before .if1 .taken)) (c .no-name .ensures _ _ b))
     (λ c κs. search needs)
     (λ c b k h l. rw (at-second _ h (c .before .if2 .taken) (c .before .before .if1 .left)) (c .to-second .ensures _ b k))
-    (λ c. search needs)
     code
     more
     (λ c κs. search needs)

@@ -1,7 +1,7 @@
 -- `parser::items::spelt` meets its contract: two bytes ask for a word, the others for a string.
 use borrow.Author.Needs.{needs}
+use Rattle.rows.proofs.Ranges.{at-word-microns, at-word-units, at-string}
 use Rattle.parser.proofs.Listed.{units-word, microns-word}
-use Rattle.parser.proofs.Ranges.{at-word-microns, at-word-units, at-string}
 use Rattle.parser.proofs.items.spelt.Statement.{statement}
 use Rattle.parser.proofs.items.spelt.Tie as tie
 
@@ -17,4 +17,4 @@ spelt-spec =
     (λ c κs. search needs)
     (λ c f b o h.
     let s = c .before .before .before in
-    rw (at-string (s .args .it) (s .pre .0) (s .pre .1) (c .before .before .if1 .left) (c .before .if2 .left)) (c .to-string .ensures f b o h)))
+    rw (at-string (s .args .it) (s .pre .0) (s .pre .1) (c .before .before .if1 .left, (c .before .if2 .left, tt))) (c .to-string .ensures f b o h)))

@@ -1,12 +1,12 @@
--- `lines::say::skip` meets its contract: what is left to drop of what is left is what was to be dropped.
-use Prim.Native.Nat.{_≤_, _-_}
+-- `rows::skip` meets its contract: what is left to drop of what is left is what was to be dropped.
+use Prim.Native.Nat.{_≤_}
 use mathlib.Core.Path.{_≡_, refl, sym, _∙_}
 use native.Mathlib.Omega.{arith}
 use lib.ListN.{drop}
 use Rattle.rows.specs.Packed.{itemsOf}
 use Rattle.rows.proofs.Unpack.{drop-one}
-use Rattle.lines.proofs.say.skip.Statement.{statement}
-use Rattle.lines.proofs.say.skip.Tie as tie
+use Rattle.rows.proofs.skip.Statement.{statement}
+use Rattle.rows.proofs.skip.Tie as tie
 
 abbrev Inv-loop : tie.InvT-loop
 Inv-loop s n r₀ m₀ r m = (r ≤ s) × (drop m (itemsOf r) ≡ drop n (itemsOf s))
@@ -32,13 +32,4 @@ returns : tie.Need-returns Inv-loop μ-loop
 returns c = (rw (c .loop-test .left) at (c .before .loop .inv .1), c .before .loop .inv .0)
 
 pub skip-spec : {M : Type 1} → statement M
-skip-spec =
-    tie.close
-    (tie.spec
-    Inv-loop
-    μ-loop
-    loop-holds
-    sub-m
-    loop-less
-    loop-again
-    returns)
+skip-spec = tie.close (tie.spec Inv-loop μ-loop loop-holds sub-m loop-less loop-again returns)
