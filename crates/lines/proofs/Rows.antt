@@ -13,18 +13,18 @@ use Rattle.word.proofs.Words.{clash, both}
 use Rattle.grammar.specs.Grammar.{Item, key, keyword, name, own, x, y, semi, value, first, firstKey, second, string, code, ifMore, noName, among, whole, Act, statement, close, refuse, back, upTo54, Row, Body, keyed, worded, options, parts, counted}
 use Rattle.grammar.specs.Engine.{Maybe, none, some, member}
 use Rattle.grammar.specs.Turns.{actFor}
-use Rattle.rows.specs.Packed.{lookUp, formOf, partOf}
-use Rattle.rows.proofs.Laws.{rowsOf, wordsIn}
+use Rattle.rows.specs.Packed.{lookUp, formOf, partOf, rowsOf, coded, wordOfKind}
+use Rattle.rows.proofs.Laws.{wordsIn}
 use Rattle.render.specs.Spelt.{all}
 use Rattle.render.specs.Plain.{Plain}
 use Rattle.render.specs.Forms.{Form, form, formsOf, rowForms, formsIn, ofCode, isOf, formFor}
-use Rattle.lines.specs.Formed.{beginOf, formBy, coded, beside, kindsWorded, wordsOfKinds, wordFor}
+use Rattle.lines.specs.Formed.{beginOf, formBy, wordFor}
 
 -- THE TEST
 
 -- the word of a kind whatever the code
 unfoldable pub plainly : ℕ → ℕ → Bool
-plainly w k = not (coded k) && eqb (beside k kindsWorded wordsOfKinds) w
+plainly w k = not (coded k) && eqb (wordOfKind k) w
 
 -- the word w begins the records with these items
 unfoldable pub begun : ℕ → ℕ → List Item → Bool
@@ -68,8 +68,8 @@ module _ (w k c : ℕ) where
   plain-word : plainly w k ≡ true → wordFor k c ≡ w
   unfolding plainly wordFor
   plain-word t =
-      let (p, q) = both (not (coded k)) (eqb (beside k kindsWorded wordsOfKinds) w) t in
-      rw (not-true (coded k) p) (eqb-true (beside k kindsWorded wordsOfKinds) w q)
+      let (p, q) = both (not (coded k)) (eqb (wordOfKind k) w) t in
+      rw (not-true (coded k) p) (eqb-true (wordOfKind k) w q)
 
   word-found : (is : List Item) → begun w k is ≡ true → ofCode is c ≡ true → wordFor k c ≡ w
   unfolding begun ofCode

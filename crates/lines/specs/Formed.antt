@@ -2,15 +2,14 @@
 -- The image `asFormed` forgets nothing of an answer but how a number says the items and what the record does to the open blocks.
 use Prim.Native.Nat.{ℕ, _/_, _%_}
 use Prim.Native.String.{String}
-use mathlib.Core.Bool.{Bool, true, cond, _&&_, _||_}
+use mathlib.Core.Bool.{Bool, true, cond, _&&_}
 use mathlib.Core.List.{List, [], _∷_, _++_}
 use lib.Dec.{eqb, leb}
-use Rattle.record.specs.Kinds.{ANTENNA, LAYER-OPTION}
 use Rattle.word.specs.Words.{keys, values}
 use Rattle.word.specs.Spelling.{firstOf}
 use Rattle.grammar.specs.Grammar.{Act, statement, close, refuse, back, upTo54}
 use Rattle.grammar.specs.Engine.{Maybe, none, some}
-use Rattle.rows.specs.Packed.{nth, itemsOf, moveOf}
+use Rattle.rows.specs.Packed.{nth, itemsOf, moveOf, coded, wordOfKind}
 use Rattle.render.specs.Forms.{Form, form, ofCode}
 use Rattle.lines.specs.declared.form.Formed.{Formed}
 use Rattle.lines.specs.declared.form.Formed.the-variants as F
@@ -35,25 +34,6 @@ formBy w k c o (refuse n) = none
 formBy w k c o back = none
 formBy w k c o (upTo54 a) = formBy w k c true a
 
--- the kinds whose records begin with a word by their code
-unfoldable pub coded : ℕ → Bool
-coded k = eqb k ANTENNA || eqb k LAYER-OPTION
-
--- the number in the second list where k stands in the first, or 0
-unfoldable pub beside : ℕ → List ℕ → List ℕ → ℕ
-beside k [] ws = 0
-beside k (j ∷ js) [] = 0
-beside k (j ∷ js) (w ∷ ws) = cond (eqb j k) w (beside k js ws)
-
--- the other kinds of records that begin with a word, and the words
-abbrev pub kindsWorded : List ℕ
-kindsWorded =
-    1 ∷ 2 ∷ 3 ∷ 4 ∷ 5 ∷ 6 ∷ 7 ∷ 8 ∷ 9 ∷ 10 ∷ 12 ∷ 13 ∷ 14 ∷ 15 ∷ 16 ∷ 17 ∷ 18 ∷ 19 ∷ 20 ∷ 21 ∷ 22 ∷ 24 ∷ 25 ∷ 26 ∷ 27 ∷ 29 ∷ 30 ∷ 31 ∷ 32 ∷ 34 ∷ []
-
-abbrev pub wordsOfKinds : List ℕ
-wordsOfKinds =
-    2 ∷ 28 ∷ 29 ∷ 6 ∷ 7 ∷ 30 ∷ 93 ∷ 25 ∷ 22 ∷ 23 ∷ 26 ∷ 8 ∷ 22 ∷ 25 ∷ 3 ∷ 4 ∷ 10 ∷ 14 ∷ 15 ∷ 16 ∷ 41 ∷ 11 ∷ 22 ∷ 12 ∷ 13 ∷ 21 ∷ 19 ∷ 18 ∷ 17 ∷ 20 ∷ []
-
 -- the word that begins a record of the kind and code, or 0
 unfoldable pub wordFor : ℕ → ℕ → ℕ
-wordFor k c = cond (coded k) (firstOf k c) (beside k kindsWorded wordsOfKinds)
+wordFor k c = cond (coded k) (firstOf k c) (wordOfKind k)

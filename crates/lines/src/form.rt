@@ -13,7 +13,6 @@ use rows::act;
 use rows::form;
 use rows::item;
 use word::codes::first_word;
-use word::names;
 
 pub enum Formed {
     // The number of the word, 0 where there is none, and the row.
@@ -55,37 +54,5 @@ fn word_for(kind: u8, code: u8) -> u8
     if (kind == kind::ANTENNA) | (kind == kind::LAYER_OPTION) {
         return first_word(kind, code);
     }
-    match kind {
-        kind::VERSION => names::VERSION,
-        kind::BUSBITCHARS => names::BUSBITCHARS,
-        kind::DIVIDERCHAR => names::DIVIDERCHAR,
-        kind::NAMESCASESENSITIVE => names::NAMESCASESENSITIVE,
-        kind::NOWIREEXTENSIONATPIN => names::NOWIREEXTENSIONATPIN,
-        kind::UNITS => names::UNITS,
-        kind::DATABASE => names::DATABASE,
-        kind::SITE => names::SITE,
-        kind::SITE_CLASS => names::CLASS,
-        kind::SYMMETRY => names::SYMMETRY,
-        kind::SIZE => names::SIZE,
-        kind::MACRO => names::MACRO,
-        kind::MACRO_CLASS => names::CLASS,
-        kind::MACRO_SITE => names::SITE,
-        kind::FOREIGN => names::FOREIGN,
-        kind::ORIGIN => names::ORIGIN,
-        kind::PIN => names::PIN,
-        kind::DIRECTION => names::DIRECTION,
-        kind::USE => names::USE,
-        kind::SHAPE => names::SHAPE,
-        kind::ANTENNAMODEL => names::ANTENNAMODEL,
-        kind::PORT => names::PORT,
-        kind::PORT_CLASS => names::CLASS,
-        kind::OBS => names::OBS,
-        kind::LAYER => names::LAYER,
-        kind::WIDTH => names::WIDTH,
-        kind::RECT => names::RECT,
-        kind::POLYGON => names::POLYGON,
-        kind::PATH => names::PATH,
-        kind::VIA => names::VIA,
-        _ => 0,
-    }
+    rows::word_of(kind)
 }

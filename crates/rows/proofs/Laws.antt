@@ -10,14 +10,7 @@ use Rattle.word.proofs.Steps.{Nested, Apart, apart}
 use Rattle.grammar.specs.Grammar.{Block, Library, Units, Site, Symmetry, Macro, Pin, Port, Obs, Options, Layer, Rect, Polygon, Path, Act, refuse, Row, Body, keyed, worded, options, parts, counted}
 use Rattle.grammar.specs.Table.{body}
 use Rattle.grammar.specs.Turns.{actFor}
-use Rattle.rows.specs.Packed.{blockOf, lookUp, actIn}
-
-abbrev pub rowsOf : Body → List Row
-rowsOf (keyed n rows) = rows
-rowsOf (worded rows) = rows
-rowsOf (options rows b) = rows
-rowsOf (parts k is) = []
-rowsOf (counted k is) = []
+use Rattle.rows.specs.Packed.{blockOf, lookUp, actIn, rowsOf}
 
 -- the refusal of a block for a word that begins no row
 abbrev pub elseOf : Body → ℕ

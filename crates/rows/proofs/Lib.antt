@@ -1,3 +1,4 @@
 pub mod Laws
 pub mod Unpack
 pub mod Ranges
+pub mod Begun

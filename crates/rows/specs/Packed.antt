@@ -2,10 +2,11 @@
 -- its head has what it does, and above that what a record does to the open blocks. `row_of` is proved to be the grammar's table.
 use Prim.Native.Nat.{ℕ, zero, suc, _-_, _/_, _%_}
 use Prim.Native.String.{String}
-use mathlib.Core.Bool.{Bool, cond}
-use mathlib.Core.List.{List, [], _∷_}
+use mathlib.Core.Bool.{Bool, false, cond, _||_}
+use mathlib.Core.List.{List, [], _∷_, _++_}
 use lib.Dec.{eqb, leb, ltb}
-use Rattle.word.specs.Words.{keys}
+use Rattle.record.specs.Kinds.{ANTENNA, LAYER-OPTION}
+use Rattle.word.specs.Words.{keys, word}
 use Rattle.grammar.specs.Grammar.{Block, Library, Units, Site, Symmetry, Macro, Pin, Port, Obs, Options, Layer, Rect, Polygon, Path, Item, key, keyword, name, own, x, y, semi, value, first, firstKey, second, string, code, ifMore, noName, among, whole, Move, stay, enter, named, version, Act, statement, close, refuse, back, upTo54, Row, Body, keyed, worded, options, parts, counted}
 use Rattle.grammar.specs.Table.{versions, microns, body}
 use Rattle.grammar.specs.Turns.{actFor}
@@ -123,3 +124,37 @@ afterIn b = nextOf (body (blockOf b))
 -- how parts end, by that number
 unfoldable pub endIn : ℕ → Act
 endIn n = cond (eqb n 4) (close (semi ∷ [])) (close (whole 6 ∷ semi ∷ []))
+
+-- THE WORD OF A KIND, for the writer
+
+abbrev pub rowsOf : Body → List Row
+rowsOf (keyed n rows) = rows
+rowsOf (worded rows) = rows
+rowsOf (options rows b) = rows
+rowsOf (parts k is) = []
+rowsOf (counted k is) = []
+
+-- the kinds whose records begin with a word by their code
+unfoldable pub coded : ℕ → Bool
+coded k = eqb k ANTENNA || eqb k LAYER-OPTION
+
+unfoldable pub gives : ℕ → Act → Bool
+gives k (statement j is m) = eqb j k
+gives k (close is) = false
+gives k (refuse n) = false
+gives k back = false
+gives k (upTo54 a) = gives k a
+
+-- the word of the first row that gives records of the kind, or 0
+unfoldable pub begunBy : ℕ → List Row → ℕ
+begunBy k [] = 0
+begunBy k (r ∷ rs) = cond (gives k (r .act)) (word (r .begin)) (begunBy k rs)
+
+abbrev pub outerRows : List Row
+outerRows = rowsOf (body Library) ++ rowsOf (body Units) ++ rowsOf (body Site) ++ rowsOf (body Macro)
+
+abbrev pub innerRows : List Row
+innerRows = rowsOf (body Pin) ++ rowsOf (body Port) ++ rowsOf (body Obs) ++ rowsOf (body Options) ++ rowsOf (body Layer)
+
+unfoldable pub wordOfKind : ℕ → ℕ
+wordOfKind k = begunBy k (outerRows ++ innerRows)

@@ -1,8 +1,9 @@
 // The rows of pins, ports, obstructions and layers, in the order of the grammar's table.
 ghost use mathlib.Core.Path.{_≡_};
+ghost use mathlib.Core.Bool.{false};
 ghost use Rattle.grammar.specs.Grammar.{Pin, Port, Obs, Options, Layer};
 ghost use Rattle.grammar.specs.Table.{body};
-ghost use Rattle.rows.specs.Packed.{actOf, lookUp};
+ghost use Rattle.rows.specs.Packed.{actOf, lookUp, coded, begunBy, innerRows};
 use crate::Row;
 use crate::act::*;
 use crate::block;
@@ -267,3 +268,25 @@ pub const END_COUNTED: Row = Row {
     head: CLOSE,
     items: SEMI,
 };
+
+// The word that begins a record of the kind, of those whose rows stand here; 0 of another kind. Those of ANTENNA and LAYER_OPTION
+// begin with a word by their code.
+pub(crate) fn word_of(kind: u8) -> u8
+    ensures { λ r. ⌜ (coded kind ≡ false → r ≡ begunBy kind innerRows) ⌝ }
+{
+    match kind {
+        kind::DIRECTION => names::DIRECTION,
+        kind::USE => names::USE,
+        kind::SHAPE => names::SHAPE,
+        kind::ANTENNAMODEL => names::ANTENNAMODEL,
+        kind::PORT => names::PORT,
+        kind::PORT_CLASS => names::CLASS,
+        kind::LAYER => names::LAYER,
+        kind::WIDTH => names::WIDTH,
+        kind::RECT => names::RECT,
+        kind::POLYGON => names::POLYGON,
+        kind::PATH => names::PATH,
+        kind::VIA => names::VIA,
+        _ => 0,
+    }
+}

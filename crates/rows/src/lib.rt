@@ -1,8 +1,9 @@
 // THE TABLE: what each word begins in each block, beside crates/grammar/specs/Table.antt line by line.
 ghost use mathlib.Core.Path.{_≡_};
+ghost use mathlib.Core.Bool.{false};
 ghost use Prim.Native.Nat.{_≤_};
 ghost use lib.ListN.{drop};
-ghost use Rattle.rows.specs.Packed.{itemsOf, actOf, blockOf, actIn, formIn, partIn, endIn, afterIn};
+ghost use Rattle.rows.specs.Packed.{itemsOf, actOf, blockOf, actIn, formIn, partIn, endIn, afterIn, coded, wordOfKind};
 use crate::inner::END_COUNTED;
 use crate::inner::END_PARTS;
 use crate::inner::POINT;
@@ -118,4 +119,15 @@ pub fn skip(items: u64, n: u64) -> u64
         m -= 1;
     }
     r
+}
+
+// The word that begins records of the kind, where it is not by their code, or 0.
+pub fn word_of(kind: u8) -> u8
+    ensures { λ r. ⌜ (coded kind ≡ false → r ≡ wordOfKind kind) ⌝ }
+{
+    let w = outer::word_of(kind);
+    if w != 0 {
+        return w;
+    }
+    inner::word_of(kind)
 }

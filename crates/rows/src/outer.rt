@@ -2,7 +2,7 @@
 ghost use mathlib.Core.Path.{_≡_};
 ghost use Rattle.grammar.specs.Grammar.{Library, Units, Site, Macro};
 ghost use Rattle.grammar.specs.Table.{body};
-ghost use Rattle.rows.specs.Packed.{actOf, lookUp};
+ghost use Rattle.rows.specs.Packed.{actOf, lookUp, begunBy, outerRows};
 use crate::Row;
 use crate::act::*;
 use crate::block;
@@ -244,5 +244,32 @@ pub(crate) fn of_macro(word: u8) -> Row
         names::OBS => OBS,
         names::END => END_NAMED,
         _ => UNKNOWN,
+    }
+}
+
+// The word that begins a record of the kind, of those whose rows stand here; 0 of another kind.
+pub(crate) fn word_of(kind: u8) -> u8
+    ensures { λ r. ⌜ r ≡ begunBy kind outerRows ⌝ }
+{
+    match kind {
+        kind::VERSION => names::VERSION,
+        kind::BUSBITCHARS => names::BUSBITCHARS,
+        kind::DIVIDERCHAR => names::DIVIDERCHAR,
+        kind::NAMESCASESENSITIVE => names::NAMESCASESENSITIVE,
+        kind::NOWIREEXTENSIONATPIN => names::NOWIREEXTENSIONATPIN,
+        kind::UNITS => names::UNITS,
+        kind::DATABASE => names::DATABASE,
+        kind::SITE => names::SITE,
+        kind::SITE_CLASS => names::CLASS,
+        kind::SYMMETRY => names::SYMMETRY,
+        kind::SIZE => names::SIZE,
+        kind::MACRO => names::MACRO,
+        kind::MACRO_CLASS => names::CLASS,
+        kind::MACRO_SITE => names::SITE,
+        kind::FOREIGN => names::FOREIGN,
+        kind::ORIGIN => names::ORIGIN,
+        kind::PIN => names::PIN,
+        kind::OBS => names::OBS,
+        _ => 0,
     }
 }
