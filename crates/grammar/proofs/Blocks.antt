@@ -1,38 +1,42 @@
--- A test of the whole table: what holds of the thirteen bodies by one computation holds of the body of each block.
+-- What holds of all the blocks by one computation holds of each of them, so that no other proof goes through the blocks by hand.
 use Prim.Native.Nat.{ℕ, zero, suc, _<_}
 use mathlib.Core.Path.{_≡_}
-use mathlib.Core.Bool.{Bool, true, _&&_}
-use mathlib.Core.List.{List, [], _∷_}
+use mathlib.Core.Bool.{Bool, true}
+use mathlib.Core.List.{List, [], _∷_, map}
 use native.Mathlib.Omega.{arith}
 use lib.ListN.{length, getD}
-use Rattle.word.proofs.Words.{both}
 use Rattle.grammar.specs.Grammar.{Block, blocks, Library, Units, Site, Symmetry, Macro, Pin, Port, Obs, Options, Layer, Rect, Polygon, Path, Body}
 use Rattle.grammar.specs.Table.{body}
 
-abbrev all : (Body → Bool) → List Block → Bool
-all f [] = true
-all f (b ∷ bs) = f (body b) && all f bs
+module _ {A : Type 0} (f g : Block → A) where
+  -- f and g agree on every block of a list
+  abbrev Agree : List Block → Type 0
+  Agree bs = map f bs ≡ map g bs
 
--- the test f passes at the body of every block
-abbrev pub everywhere : (Body → Bool) → Bool
-everywhere f = all f blocks
+  nth : (bs : List Block) → Agree bs → (n : ℕ) → n < length bs → f (getD bs n Library) ≡ g (getD bs n Library)
+  nth [] t n h = absurd (omega arith)
+  nth (b ∷ bs) t zero h = cc t
+  nth (b ∷ bs) t (suc n) h = let tails : Agree bs = cc t in nth bs tails n (omega arith)
 
-nth : (f : Body → Bool) (bs : List Block) → all f bs ≡ true → (n : ℕ) → n < length bs → f (body (getD bs n Library)) ≡ true
-nth f [] t n h = absurd (omega arith)
-nth f (b ∷ bs) t zero h = both (f (body b)) (all f bs) t .0
-nth f (b ∷ bs) t (suc n) h = nth f bs (both (f (body b)) (all f bs) t .1) n (omega arith)
+  pub alike : Agree blocks → (b : Block) → f b ≡ g b
+  alike t Library = nth blocks t 0 (omega arith)
+  alike t Units = nth blocks t 1 (omega arith)
+  alike t Site = nth blocks t 2 (omega arith)
+  alike t Symmetry = nth blocks t 3 (omega arith)
+  alike t Macro = nth blocks t 4 (omega arith)
+  alike t Pin = nth blocks t 5 (omega arith)
+  alike t Port = nth blocks t 6 (omega arith)
+  alike t Obs = nth blocks t 7 (omega arith)
+  alike t Options = nth blocks t 8 (omega arith)
+  alike t Layer = nth blocks t 9 (omega arith)
+  alike t Rect = nth blocks t 10 (omega arith)
+  alike t Polygon = nth blocks t 11 (omega arith)
+  alike t Path = nth blocks t 12 (omega arith)
 
-pub at-block : (f : Body → Bool) → everywhere f ≡ true → (b : Block) → f (body b) ≡ true
-at-block f t Library = nth f blocks t 0 (omega arith)
-at-block f t Units = nth f blocks t 1 (omega arith)
-at-block f t Site = nth f blocks t 2 (omega arith)
-at-block f t Symmetry = nth f blocks t 3 (omega arith)
-at-block f t Macro = nth f blocks t 4 (omega arith)
-at-block f t Pin = nth f blocks t 5 (omega arith)
-at-block f t Port = nth f blocks t 6 (omega arith)
-at-block f t Obs = nth f blocks t 7 (omega arith)
-at-block f t Options = nth f blocks t 8 (omega arith)
-at-block f t Layer = nth f blocks t 9 (omega arith)
-at-block f t Rect = nth f blocks t 10 (omega arith)
-at-block f t Polygon = nth f blocks t 11 (omega arith)
-at-block f t Path = nth f blocks t 12 (omega arith)
+-- a test of the block
+pub each-block : (f : Block → Bool) → Agree f (λ b. true) blocks → (b : Block) → f b ≡ true
+each-block f t = alike f (λ b. true) t
+
+-- and one of its body
+pub at-block : (f : Body → Bool) → Agree (λ b. f (body b)) (λ b. true) blocks → (b : Block) → f (body b) ≡ true
+at-block f t = each-block (λ b. f (body b)) t

@@ -4,17 +4,18 @@ use mathlib.Core.Path.{_≡_, refl, sym, ap, _∙_}
 use mathlib.Core.Bool.{Bool, true, false, cond}
 use mathlib.Core.List.{List, [], _∷_, _++_, append-nil}
 use native.Mathlib.Omega.{arith}
-use borrow.Author.Tests.{eqb-true, eqb-false, eq-eqb, ne-eqb, lt-leb, leb-true, leb-false}
+use borrow.Author.Tests.{eqb-true, eqb-false, eq-eqb, ne-eqb, le-leb, lt-leb, leb-true, leb-false}
 use lib.Dec.{eqb, leb, ltb}
 use lib.ListN.{length, replicate}
 use Rattle.word.specs.Words.{keys, values, words, raised, upper, same, firstWhere, wordOf}
 use Rattle.word.specs.Spelling.{spelling}
-use Rattle.grammar.specs.Grammar.{Block, Library, Units, Site, Symmetry, Macro, Pin, Port, Obs, Options, Layer, Rect, Polygon, Path, Act, statement, close, refuse, back, upTo54, Body, keyed, worded, options, parts, counted}
+use Rattle.grammar.specs.Grammar.{Block, Act, statement, close, refuse, back, upTo54, Body, keyed, worded, options, parts, counted}
 use Rattle.grammar.specs.Table.{body}
 use Rattle.grammar.specs.Engine.{Maybe, none, some, Frame}
 use Rattle.grammar.specs.Turns.{actFor}
+use Rattle.grammar.proofs.Blocks.{alike}
 use Rattle.rows.specs.Packed.{itemsOf, moveOf, plain, actOf, lookUp, formOf, nextOf}
-use Rattle.render.specs.Pieces.{Said, newline, text}
+use Rattle.render.specs.Pieces.{Said, Piece, newline, text}
 use Rattle.render.specs.Says.{word}
 use Rattle.render.specs.Forms.{Close, closeOf, lastWords, nobody}
 use Rattle.render.specs.Lines.{spaced, indented, line, lineEnd, settledBy, settling, ending, closing}
@@ -31,23 +32,18 @@ closeBy (refuse n) = none
 closeBy back = none
 closeBy (upTo54 a) = none
 
+-- the pieces, in a block that has rows
+abbrev withRows : Block → List Piece → List Piece
+withRows b ps = cond (leb (formOf (body b)) 2) ps []
+
 -- each block ends so, by its row of END
 module _ (d : ℕ) (f : Frame ℕ) where
   pub ends : (b : Block) → formOf (body b) ≤ 2 → ending d f (body b) ≡ line d (lastWords (f .label) (closeBy (lookUp (body b) 9)))
   unfolding keys values words raised upper same firstWhere wordOf formOf lookUp actFor closeOf closeBy lastWords line
-  ends Library h = refl
-  ends Units h = refl
-  ends Site h = refl
-  ends Symmetry h = absurd (omega arith)
-  ends Macro h = refl
-  ends Pin h = refl
-  ends Port h = refl
-  ends Obs h = refl
-  ends Options h = refl
-  ends Layer h = refl
-  ends Rect h = absurd (omega arith)
-  ends Polygon h = absurd (omega arith)
-  ends Path h = absurd (omega arith)
+  ends b h =
+      let e : withRows b (ending d f (body b)) ≡ withRows b (line d (lastWords (f .label) (closeBy (lookUp (body b) 9)))) =
+      alike (λ b. withRows b (ending d f (body b))) (λ b. withRows b (line d (lastWords (f .label) (closeBy (lookUp (body b) 9))))) refl b in
+      rw (le-leb (formOf (body b)) 2 h) at e
 
   -- and the others with the `;` of their line
   pub ends-line : (b : Body) → 2 < formOf b → lineEnd ≡ ending d f b

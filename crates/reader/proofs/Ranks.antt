@@ -11,10 +11,11 @@ use Rattle.lexer.specs.Kinds as Kind
 use Rattle.word.specs.Words.{wordOf, word, isKey}
 use Rattle.word.proofs.Words.{both}
 use Rattle.grammar.specs.Tokens.{Tok, Ahead, Answer, ok, refused, then, next-token, matches}
-use Rattle.grammar.specs.Grammar.{Block, Library, Units, Site, Symmetry, Macro, Pin, Port, Obs, Options, Layer, Rect, Polygon, Path, semi, whole, Move, stay, enter, named, version, Act, statement, close, refuse, back, upTo54, Row, Body, keyed, worded, options, parts, counted}
+use Rattle.grammar.specs.Grammar.{Block, Library, semi, whole, Move, stay, enter, named, version, Act, statement, close, refuse, back, upTo54, Row, Body, keyed, worded, options, parts, counted}
 use Rattle.grammar.specs.Table.{body}
 use Rattle.grammar.specs.Engine.{Rec, Draft, Frame, blank, get-name, items, empty}
 use Rattle.grammar.specs.Turns.{Step, gives, ends, goes, backs, halts, given, ended, gone, actFor, perform, peek-key, judged, step, shift, become}
+use Rattle.grammar.proofs.Blocks.{each-block}
 use Rattle.reader.specs.Open.{Pushes, Inside, rank, Ranked}
 
 -- a record in a block of rank n opens only what stands deeper
@@ -128,19 +129,7 @@ module _ (n : ℕ) where
 
 passes : (b : Block) → rises-body (rank b) (body b) ≡ true
 unfolding rises-body rises-rows rises-act deeper
-passes Library = refl
-passes Units = refl
-passes Site = refl
-passes Symmetry = refl
-passes Macro = refl
-passes Pin = refl
-passes Port = refl
-passes Obs = refl
-passes Options = refl
-passes Layer = refl
-passes Rect = refl
-passes Polygon = refl
-passes Path = refl
+passes = each-block (λ b. rises-body (rank b) (body b)) refl
 
 pub step-rises : {A M : Type 0} (v : ℕ) (f : Frame A) (a : Ahead A M) (b : Block) → Rises (rank b) (step v f a (body b))
 step-rises v f a b = body-rises (rank b) v f a (body b) (passes b)
@@ -148,19 +137,7 @@ step-rises v f a b = body-rises (rank b) v f a (body b) (passes b)
 -- THE OPEN BLOCKS
 
 pub rank-most : (b : Block) → rank b ≤ 5
-rank-most Library = omega arith
-rank-most Units = omega arith
-rank-most Site = omega arith
-rank-most Symmetry = omega arith
-rank-most Macro = omega arith
-rank-most Pin = omega arith
-rank-most Port = omega arith
-rank-most Obs = omega arith
-rank-most Options = omega arith
-rank-most Layer = omega arith
-rank-most Rect = omega arith
-rank-most Polygon = omega arith
-rank-most Path = omega arith
+rank-most b = leb-true (rank b) 5 (each-block (λ b. leb (rank b) 5) refl b)
 
 -- what stands deeper than a block is not the library
 pub no-library : (n : ℕ) (b : Block) → n < rank b → b ≡ Library → ⊥

@@ -8,11 +8,11 @@ use lib.ListN.{length}
 use Rattle.record.specs.Kinds.{POINT}
 use Rattle.lexer.specs.Kinds as Kind
 use Rattle.word.proofs.Words.{both}
-use Rattle.grammar.specs.Grammar.{Block, Library, Units, Site, Symmetry, Macro, Pin, Port, Obs, Options, Layer, Rect, Polygon, Path, Item, x, y, Move, stay, enter, named, version}
+use Rattle.grammar.specs.Grammar.{Block, Rect, Item, x, y, Move, stay, enter, named, version, Body, keyed, worded, options, parts, counted}
 use Rattle.grammar.specs.Table.{body}
 use Rattle.grammar.specs.Engine.{Maybe, none, some, Frame, empty}
 use Rattle.grammar.specs.Turns.{state, shift, counting, opened}
-use Rattle.grammar.proofs.Blocks.{at-block}
+use Rattle.grammar.proofs.Blocks.{alike, at-block}
 use Rattle.render.specs.Pieces.{Said, tokens}
 use Rattle.render.specs.Spelt.{all}
 use Rattle.render.specs.Stripped.{finish}
@@ -75,20 +75,19 @@ module _ (v p : ℕ) (l : List ℕ) (k : ℕ) (ks : List ℕ) (fs : List (Frame 
 
 -- THE TABLE
 
+-- a rectangle alone has as many parts as it lacks
+abbrev isCounted : Body → Bool
+isCounted (keyed n rows) = false
+isCounted (worded rows) = false
+isCounted (options rows b) = false
+isCounted (parts k is) = false
+isCounted (counted k is) = true
+
 abbrev isRect : Block → Bool
-isRect Library = false
-isRect Units = false
-isRect Site = false
-isRect Symmetry = false
-isRect Macro = false
-isRect Pin = false
-isRect Port = false
-isRect Obs = false
-isRect Options = false
-isRect Layer = false
-isRect Rect = true
-isRect Polygon = false
-isRect Path = false
+isRect b = isCounted (body b)
+
+is-rect : (b : Block) → isRect b ≡ true → b ≡ Rect
+is-rect b h = let e : cond (isRect b) b Rect ≡ Rect = alike (λ b. cond (isRect b) b Rect) (λ b. Rect) refl b in rw h at e
 
 -- a statement that forbids a name after it opens such a block
 abbrev opensRect : Move → Bool
@@ -107,20 +106,8 @@ all-bar = at-block (λ b. all barsByRect (formsIn b)) refl
 numbered-opened : (b : Block) (ks : List ℕ) → (isRect b && not (empty ks)) ≡ true → (v p : ℕ) (fs : List (Frame ℕ)) (rs : List Plain) (us : List Said)
     → fitFrom (state v (opened b p [] ks ∷ fs)) rs ≡ true → Numbered (tokens (lines (state v (opened b p [] ks ∷ fs)) rs) ++ us)
 unfolding empty
-numbered-opened Library ks h = absurd (false≢true h)
-numbered-opened Units ks h = absurd (false≢true h)
-numbered-opened Site ks h = absurd (false≢true h)
-numbered-opened Symmetry ks h = absurd (false≢true h)
-numbered-opened Macro ks h = absurd (false≢true h)
-numbered-opened Pin ks h = absurd (false≢true h)
-numbered-opened Port ks h = absurd (false≢true h)
-numbered-opened Obs ks h = absurd (false≢true h)
-numbered-opened Options ks h = absurd (false≢true h)
-numbered-opened Layer ks h = absurd (false≢true h)
-numbered-opened Rect [] h = absurd (false≢true h)
-numbered-opened Rect (k ∷ ks) h = λ v p fs rs us t. numbered-rect v p [] k ks fs rs us t
-numbered-opened Polygon ks h = absurd (false≢true h)
-numbered-opened Path ks h = absurd (false≢true h)
+numbered-opened b [] h = absurd (false≢true (both (isRect b) false h .1))
+numbered-opened b (k ∷ ks) h = rw (is-rect b (both (isRect b) true h .0)) (λ v p fs rs us t. numbered-rect v p [] k ks fs rs us t)
 
 -- where the items forbid no name
 unbarred : (is : List Item) (us : List Said) → endsNoName is ≡ false → follows [] us ≡ true → follows is us ≡ true

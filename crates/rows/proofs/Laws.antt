@@ -7,7 +7,7 @@ use borrow.Author.Tests.{ne-eqb}
 use lib.Dec.{eqb}
 use Rattle.word.specs.Words.{keys, values, words, raised, upper, same, firstWhere, wordOf, word}
 use Rattle.word.proofs.Steps.{Nested, Apart, apart}
-use Rattle.grammar.specs.Grammar.{Block, Library, Units, Site, Symmetry, Macro, Pin, Port, Obs, Options, Layer, Rect, Polygon, Path, Act, refuse, Row, Body, keyed, worded, options, parts, counted}
+use Rattle.grammar.specs.Grammar.{Block, Symmetry, Rect, Polygon, Path, Act, refuse, Row, Body, keyed, worded, options, parts, counted}
 use Rattle.grammar.specs.Table.{body}
 use Rattle.grammar.specs.Turns.{actFor}
 use Rattle.rows.specs.Packed.{blockOf, lookUp, actIn, rowsOf}

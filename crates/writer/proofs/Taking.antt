@@ -9,10 +9,11 @@ use lib.Dec.{eqb, ltb}
 use lib.ListN.{length}
 use borrow.Author.Tests.{eq-eqb, ltb-true}
 use Rattle.word.proofs.Words.{both}
-use Rattle.grammar.specs.Grammar.{Block, Library, Units, Site, Symmetry, Macro, Pin, Port, Obs, Options, Layer, Rect, Polygon, Path, Move, stay, enter, named, version}
+use Rattle.grammar.specs.Grammar.{Block, Library, Options, Layer, Move, stay, enter, named, version, Body, keyed, worded, options, parts, counted}
 use Rattle.grammar.specs.Table.{body}
 use Rattle.grammar.specs.Engine.{Maybe, none, some, Frame}
 use Rattle.grammar.specs.Turns as T
+use Rattle.grammar.proofs.Blocks.{alike, each-block}
 use Rattle.rows.specs.Packed as P
 use Rattle.rows.specs.Packed.{blockOf, formOf, nextOf, afterIn}
 use Rattle.parser.specs.Kept.{frameOf}
@@ -22,7 +23,7 @@ use Rattle.reader.proofs.Ranks.{Deeper}
 use Rattle.render.specs.Pieces.{text}
 use Rattle.render.specs.Plain.{Plain}
 use Rattle.render.specs.Forms.{Form, formsOf, rowForms, formsIn, isOf, formFor}
-use Rattle.render.specs.Lines.{lineEnd, formIn, takenBy, taking, before}
+use Rattle.render.specs.Lines.{lineEnd, formIn, settledBy, settling, takenBy, taking, before}
 use Rattle.lines.specs.declared.form.Formed.{Formed}
 use Rattle.lines.specs.declared.form.Formed.the-variants as F
 use Rattle.lines.specs.Put.{greatest, Put}
@@ -44,41 +45,26 @@ as-found b k c x h p e d f q = h f p q (sym e) (sym d) ∙ ap (λ j. asFormed j 
 -- only a block of options is made of options
 is-options : (b : Block) → formOf (body b) ≡ 2 → b ≡ Options
 unfolding formOf
-is-options Library h = absurd (let z : ⊥ = omega arith in z)
-is-options Units h = absurd (let z : ⊥ = omega arith in z)
-is-options Site h = absurd (let z : ⊥ = omega arith in z)
-is-options Symmetry h = absurd (let z : ⊥ = omega arith in z)
-is-options Macro h = absurd (let z : ⊥ = omega arith in z)
-is-options Pin h = absurd (let z : ⊥ = omega arith in z)
-is-options Port h = absurd (let z : ⊥ = omega arith in z)
-is-options Obs h = absurd (let z : ⊥ = omega arith in z)
-is-options Options h = refl
-is-options Layer h = absurd (let z : ⊥ = omega arith in z)
-is-options Rect h = absurd (let z : ⊥ = omega arith in z)
-is-options Polygon h = absurd (let z : ⊥ = omega arith in z)
-is-options Path h = absurd (let z : ⊥ = omega arith in z)
+is-options b h =
+    let e : cond (eqb (formOf (body b)) 2) b Options ≡ Options = alike (λ b. cond (eqb (formOf (body b)) 2) b Options) (λ b. Options) refl b in
+    rw (eq-eqb (formOf (body b)) 2 h) at e
 
 -- a block that is no options is as it was
-steady : (b : Block) → (formOf (body b) ≡ 2 → ⊥) → (f : Frame ℕ) → f .block ≡ b → (takenBy f none ≡ f) × (before f none ≡ [])
+steady : (f : Frame ℕ) → (formOf (body (f .block)) ≡ 2 → ⊥) → (takenBy f none ≡ f) × (before f none ≡ [])
 unfolding formOf
-steady Library h f e = (rw e, rw e)
-steady Units h f e = (rw e, rw e)
-steady Site h f e = (rw e, rw e)
-steady Symmetry h f e = (rw e, rw e)
-steady Macro h f e = (rw e, rw e)
-steady Pin h f e = (rw e, rw e)
-steady Port h f e = (rw e, rw e)
-steady Obs h f e = (rw e, rw e)
-steady Options h f e = absurd (h refl)
-steady Layer h f e = (rw e, rw e)
-steady Rect h f e = (rw e, rw e)
-steady Polygon h f e = (rw e, rw e)
-steady Path h f e = (rw e, rw e)
+steady f h = go (body (f .block)) h
+  where
+    go : (b : Body) → (formOf b ≡ 2 → ⊥) → (settledBy f b ≡ f) × (settling b ≡ [])
+    go (keyed n rows) h = (refl, refl)
+    go (worded rows) h = (refl, refl)
+    go (options rows b) h = absurd (h refl)
+    go (parts k is) h = (refl, refl)
+    go (counted k is) h = (refl, refl)
 
 -- a layer is as it was, whatever form the record has there
 layer-steady : (f : Frame ℕ) → f .block ≡ Layer → (m : Maybe Form) → (takenBy f m ≡ f) × (before f m ≡ [])
 unfolding formOf
-layer-steady f e none = steady Layer (λ z. omega arith) f e
+layer-steady f e none = steady f (λ z. let y : formOf (body Layer) ≡ 2 = rw e at z in omega arith)
 layer-steady f e (some m) = (refl, refl)
 
 -- how often the block with that number can still turn into another
@@ -145,7 +131,7 @@ module _ (s : List ℕ) (o : Open) (r : Plain) (out : List ℕ) (at : ℕ) (x : 
   unfolding P.formIn
   settled-other h e b q =
       let z : formIn inner r ≡ none = rw e at q in
-      let y = steady (blockOf (o .inner .block)) b inner refl in
+      let y = steady inner b in
       as-it-was h (rw z (y .0)) (rw z (y .1)) q
 
   -- another record ends the line of the options
@@ -175,7 +161,7 @@ taking-ranked f fs r h = go (formIn f r)
     go : (m : Maybe Form) → Ranked (takenBy f m ∷ fs)
     go none = elim (ℕ-discrete (formOf (body (f .block))) 2) [
       | yes e ↦ let b = is-options (f .block) e in let d : length fs ≤ rank Options = rw b at (h .0) in rw b (d, h .1)
-      | no e ↦ rw (steady (f .block) e f refl .0) h
+      | no e ↦ rw (steady f e .0) h
     ]
     go (some m) = h
 
@@ -193,19 +179,7 @@ rising n (m ∷ ms) = deeper n (m .move) && rising n ms
 
 passes : (b : Block) → rising (rank b) (formsIn (body b)) ≡ true
 unfolding formsIn rowForms formsOf rising deeper
-passes Library = refl
-passes Units = refl
-passes Site = refl
-passes Symmetry = refl
-passes Macro = refl
-passes Pin = refl
-passes Port = refl
-passes Obs = refl
-passes Options = refl
-passes Layer = refl
-passes Rect = refl
-passes Polygon = refl
-passes Path = refl
+passes = each-block (λ b. rising (rank b) (formsIn (body b))) refl
 
 deeper-is : (n : ℕ) (m : Move) → deeper n m ≡ true → Deeper n m
 unfolding deeper
