@@ -1,4 +1,5 @@
-// The rows of pins, ports, obstructions and layers, in the order of the grammar's table.
+// THE TABLE, beside crates/grammar/specs/Table.antt line by line: the rows of pins, ports, obstructions and layers, and under those of each
+// block what each word begins in it.
 ghost use mathlib.Core.Path.{_≡_};
 ghost use mathlib.Core.Bool.{false};
 ghost use Rattle.grammar.specs.Grammar.{Pin, Port, Obs, Options, Layer};

@@ -1,4 +1,4 @@
-// THE TABLE: what each word begins in each block, beside crates/grammar/specs/Table.antt line by line.
+// The grammar's table in numbers: what each word begins in each block. Its rows stand in outer.rt and inner.rt.
 ghost use mathlib.Core.Path.{_≡_};
 ghost use mathlib.Core.Bool.{false};
 ghost use Prim.Native.Nat.{_≤_};

@@ -1,4 +1,5 @@
-// The rows of the library, its units, its sites and its macros, in the order of the grammar's table.
+// THE TABLE, beside crates/grammar/specs/Table.antt line by line: the rows of the library, its units, its sites and its macros, and under
+// those of each block what each word begins in it.
 ghost use mathlib.Core.Path.{_≡_};
 ghost use Rattle.grammar.specs.Grammar.{Library, Units, Site, Macro};
 ghost use Rattle.grammar.specs.Table.{body};
