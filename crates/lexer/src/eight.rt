@@ -24,7 +24,7 @@ fn wide(x: u8) -> u64
 }
 
 // The eight bytes from a place on as one number, the first of them lowest.
-pub fn eight(text: &[u8], at: usize) -> u64
+pub(crate) fn eight(text: &[u8], at: usize) -> u64
     requires { ⌜ at + 8 ≤ length (now text) ⌝ }
     ensures { λ r. ⌜ Packed (take 8 (drop at (now (text .entry)))) r ⌝ }
 {
@@ -52,14 +52,14 @@ fn others(w: u64, one: u64, first: u64, last: u64) -> u64
 }
 
 // A mark at each byte that ends a name: a space or a newline.
-pub fn name_ends(w: u64) -> u64
+pub(crate) fn name_ends(w: u64) -> u64
     ensures { λ r. ⌜ Marks inName w r ⌝ }
 {
     others(w, 32, 9, 13) ^ TOPS
 }
 
 // A mark at each byte that ends a number: neither a digit nor a point.
-pub fn number_ends(w: u64) -> u64
+pub(crate) fn number_ends(w: u64) -> u64
     ensures { λ r. ⌜ Marks inNumber w r ⌝ }
 {
     others(w, 46, 48, 57)
@@ -73,14 +73,14 @@ fn blank_ends(w: u64) -> u64
 }
 
 // How many bytes stand before the first mark.
-pub fn before(marks: u64) -> usize
+pub(crate) fn before(marks: u64) -> usize
     ensures { λ r. ⌜ r ≡ trailingZeros 64 marks / 8 ⌝ }
 {
     (u64::trailing_zeros(marks) / 8) as usize
 }
 
 // The place after the bytes of a name that start at `at`.
-pub fn name_past(text: &[u8], at: usize) -> usize
+pub(crate) fn name_past(text: &[u8], at: usize) -> usize
     requires { ⌜ at ≤ length (now text) ⌝ }
     ensures { λ r. ⌜ r ≡ past inName (now (text .entry)) at ⌝ }
 {
@@ -96,7 +96,7 @@ pub fn name_past(text: &[u8], at: usize) -> usize
 }
 
 // The place after the digits and points that start at `at`.
-pub fn number_past(text: &[u8], at: usize) -> usize
+pub(crate) fn number_past(text: &[u8], at: usize) -> usize
     requires { ⌜ at ≤ length (now text) ⌝ }
     ensures { λ r. ⌜ r ≡ past inNumber (now (text .entry)) at ⌝ }
 {
@@ -112,7 +112,7 @@ pub fn number_past(text: &[u8], at: usize) -> usize
 }
 
 // A place up to which there are only blanks from `at` on: behind them, or within eight bytes of the text's end.
-pub fn blanks_past(text: &[u8], at: usize) -> usize
+pub(crate) fn blanks_past(text: &[u8], at: usize) -> usize
     requires { ⌜ at ≤ length (now text) ⌝ }
     ensures { λ r. ⌜ (at ≤ r) × (past isBlank (now (text .entry)) r ≡ past isBlank (now (text .entry)) at) ⌝ }
 {
@@ -128,7 +128,7 @@ pub fn blanks_past(text: &[u8], at: usize) -> usize
 }
 
 // A place at most seven bytes behind `at` up to which there are only blanks: behind them, or `at` where eight or more come next.
-pub fn near_blanks(text: &[u8], at: usize) -> usize
+pub(crate) fn near_blanks(text: &[u8], at: usize) -> usize
     requires { ⌜ at + 7 < length (now text) ⌝ }
     ensures { λ r. ⌜ (at ≤ r) × (r ≤ at + 7) × (past isBlank (now (text .entry)) r ≡ past isBlank (now (text .entry)) at) ⌝ }
 {
