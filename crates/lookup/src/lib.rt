@@ -135,7 +135,8 @@ pub fn name<'a, 'b>(text: &'a [u8], file: &'b [u8], index: usize) -> &'a [u8]
     part(text, r.name(), r.len())
 }
 
-fn part(text: &[u8], start: usize, len: usize) -> &[u8]
+// So many bytes of the text from a place on; empty where they reach outside of it.
+pub fn part(text: &[u8], start: usize, len: usize) -> &[u8]
     ensures { λ r. ⌜ now r ≡ part (now (text .entry)) start len ⌝ }
 {
     if text.len() < start {

@@ -2,7 +2,7 @@
 use Prim.Native.Nat.{ℕ}
 use Rattle.refusal.specs.declared.Refusal.{Refusal}
 
--- done; place: the count of records or bytes
+-- done; place: the count of records, bytes or entries
 abbrev pub done : ℕ
 done = 0
 
@@ -46,7 +46,7 @@ notNumeral = 9
 abbrev pub siteLacks : ℕ
 siteLacks = 10
 
--- the record buffer is too small; place: the records needed
+-- the buffer for records or for an index is too small; place: the records or entries needed
 abbrev pub recordRoom : ℕ
 recordRoom = 11
 
@@ -54,7 +54,7 @@ recordRoom = 11
 abbrev pub textRoom : ℕ
 textRoom = 12
 
--- the record bytes are not a multiple of 36; place: their length
+-- the bytes of a file are not a multiple of its row's, for records 36; place: their length
 abbrev pub notWhole : ℕ
 notWhole = 13
 
@@ -65,6 +65,10 @@ wrongRecord = 14
 -- a record is lacking; place: its `at`
 abbrev pub lacking : ℕ
 lacking = 15
+
+-- an index differs from the one that would be built; place: the first position at which they differ
+abbrev pub indexDiffers : ℕ
+indexDiffers = 16
 
 abbrev pub refused : ℕ → ℕ → ℕ → Refusal
 refused number place line = record { number = number; place = place; line = line }

@@ -1,7 +1,7 @@
 // What every call says when it cannot use what it was given: a number, a place and a line, as the table
 // "Numbers that come back" of the rules has them.
 ghost use mathlib.Core.Path.{_≡_};
-ghost use Rattle.refusal.specs.Table.{refused, done, tooLong, notAscii, noToken, wrongKind, notKey, notAllowed, anotherWord, notSupported, notNumeral, siteLacks, recordRoom, textRoom, notWhole, wrongRecord, lacking};
+ghost use Rattle.refusal.specs.Table.{refused, done, tooLong, notAscii, noToken, wrongKind, notKey, notAllowed, anotherWord, notSupported, notNumeral, siteLacks, recordRoom, textRoom, notWhole, wrongRecord, lacking, indexDiffers};
 
 // The number has a whole word, so that a token and a refusal lie alike in an answer that is the one or the other.
 pub struct Refusal {
@@ -43,7 +43,9 @@ impl Refusal {
 
     pub const LACKING: usize = 15;
 
-    // No refusal: the call is done, with so many records or bytes.
+    pub const INDEX_DIFFERS: usize = 16;
+
+    // No refusal: the call is done, with so many records, bytes or entries.
     pub fn done(count: usize) -> Self
         ensures { λ r. ⌜ r ≡ refused done count 0 ⌝ }
     {
@@ -144,7 +146,7 @@ impl Refusal {
         }
     }
 
-    // The record buffer has room for fewer records than are needed.
+    // The buffer has room for fewer records, or entries of an index, than are needed.
     pub fn record_room(needed: usize) -> Self
         ensures { λ r. ⌜ r ≡ refused recordRoom needed 0 ⌝ }
     {
@@ -166,7 +168,7 @@ impl Refusal {
         }
     }
 
-    // The record bytes, so many, are no whole number of records.
+    // The bytes of a file, so many, are no whole number of its rows.
     pub fn not_whole(length: usize) -> Self
         ensures { λ r. ⌜ r ≡ refused notWhole length 0 ⌝ }
     {
@@ -195,6 +197,17 @@ impl Refusal {
         Self {
             number: Self::LACKING,
             place: start,
+            line: 0,
+        }
+    }
+
+    // The index differs at the position from the one that would be built.
+    pub fn index_differs(position: usize) -> Self
+        ensures { λ r. ⌜ r ≡ refused indexDiffers position 0 ⌝ }
+    {
+        Self {
+            number: Self::INDEX_DIFFERS,
+            place: position,
             line: 0,
         }
     }

@@ -144,3 +144,14 @@ module _ {A : Type 0} (n : ℕ) (encoded : A → List ℕ) (decoded : List ℕ �
   pub joined-held : (file : List ℕ) → Bytes file → whole n file ≡ true → joined encoded (held n decoded file) ≡ file
   joined-held file b h =
       joined-front (count n file) file b (omega (arith, div-add-mod (length file) n, eqb-true (length file % n) 0 h))
+
+-- a file in whole rows is its rows, one after the other
+rows-front : (n m : ℕ) (file : List ℕ) → length file ≡ n * m → joined (λ l. l) (front n (λ l. l) m file) ≡ file
+unfolding front joined
+rows-front n zero file h = empty file (h ∙ mul-zero n)
+rows-front n (suc m) file h =
+    let left : length (drop n file) ≡ n * m = simp (length-drop) (omega (arith, next n m)) in
+    ap (_++_ (take n file)) (rows-front n m (drop n file) left) ∙ take-append-drop n file
+
+pub joined-rows : (n : ℕ) (file : List ℕ) → whole n file ≡ true → joined (λ l. l) (held n (λ l. l) file) ≡ file
+joined-rows n file h = rows-front n (count n file) file (omega (arith, div-add-mod (length file) n, eqb-true (length file % n) 0 h))

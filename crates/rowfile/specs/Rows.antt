@@ -39,3 +39,7 @@ joined encoded (r ∷ rs) = encoded r ++ joined encoded rs
 -- the file with the row at the index, where it has room there, and otherwise as it was
 unfoldable pub stored : ℕ → List ℕ → ℕ → List ℕ → List ℕ
 stored n row index file = cond (hasRoom n file index) (sets file (n * index) row) file
+
+-- the file with two of its rows exchanged
+unfoldable pub swapped : ℕ → ℕ → ℕ → List ℕ → List ℕ
+swapped n i j file = stored n (rowAt n file i) j (stored n (rowAt n file j) i file)

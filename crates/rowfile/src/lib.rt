@@ -1,9 +1,9 @@
-// Files of rows of one width, one after the other: storing a row at its index.
+// Files of rows of one width, one after the other: storing a row at its index, and exchanging two rows.
 ghost use mathlib.Core.Path.{_≡_};
-ghost use Prim.Native.Nat.{_+_, _≤_};
+ghost use Prim.Native.Nat.{_+_, _/_, _≤_, _<_};
 ghost use lib.ListN.{length};
 ghost use lib.Seq.{sets};
-ghost use Rattle.rowfile.specs.Rows.{hasRoom, stored};
+ghost use Rattle.rowfile.specs.Rows.{hasRoom, stored, swapped};
 
 // Writes the row at the index, and says whether the file had room there. Rows are as wide as this one; of no bytes there is none.
 pub fn put(row: &[u8], file: &mut [u8], index: usize) -> bool
@@ -29,5 +29,21 @@ fn lay(file: &mut [u8], place: usize, bytes: &[u8])
     while i < bytes.len() {
         file[place + i] = bytes[i];
         i += 1;
+    }
+}
+
+// Exchanges two rows of a file whose rows are so wide.
+pub fn swap(file: &mut [u8], width: usize, i: usize, j: usize)
+    requires { ⌜ (i < j) × (j < length (now file) / width) ⌝ }
+    ensures { λ _. ⌜ now (file .exit) ≡ swapped width i j (now (file .entry)) ⌝ }
+{
+    let a = width * i;
+    let b = width * j;
+    let mut k = 0;
+    while k < width {
+        let kept = file[a + k];
+        file[a + k] = file[b + k];
+        file[b + k] = kept;
+        k += 1;
     }
 }

@@ -1,0 +1,4 @@
+pub mod Laws
+pub mod Held
+mod Common
+pub mod Ordered

@@ -1,0 +1,4 @@
+pub mod Index
+pub mod Answers
+pub mod Meaning
+pub mod Examples
