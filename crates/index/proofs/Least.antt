@@ -62,7 +62,7 @@ module _ (s : List ℕ) (owner : ℕ) (name : List ℕ) where
       go false h = h
 
   -- none that has them is less
-  least-low : (l : List Entry) (e : Entry) → List·Memᴰ e l → bears s owner name e ≡ true → least s owner name l ≤ e .at
+  pub least-low : (l : List Entry) (e : Entry) → List·Memᴰ e l → bears s owner name e ≡ true → least s owner name l ≤ e .at
   unfolding least
   least-low [] e m h = absurd (List·Memᴰ·not-nil m)
   least-low (f ∷ l) e m h = ⊎-elim here (λ n. there (bears s owner name f) (least-low l e n h)) (List·Memᴰ·cases-cons m)
@@ -75,13 +75,13 @@ module _ (s : List ℕ) (owner : ℕ) (name : List ℕ) where
       there false k = k
 
   -- it is that of one of them, or there is none
-  abbrev One : List Entry → ℕ → Type 0
+  abbrev pub One : List Entry → ℕ → Type 0
   One l a = (e : Entry) × List·Memᴰ e l × (bears s owner name e ≡ true) × (a ≡ e .at)
 
   later : (f : Entry) (l : List Entry) (a : ℕ) → One l a → One (f ∷ l) a
   later f l a (e, m, b, q) = (e, List·Memᴰ·tail m, b, q)
 
-  least-of : (l : List Entry) → (least s owner name l ≡ noPlace) ⊎ One l (least s owner name l)
+  pub least-of : (l : List Entry) → (least s owner name l ≡ noPlace) ⊎ One l (least s owner name l)
   unfolding least
   least-of [] = inl refl
   least-of (f ∷ l) = go (bears s owner name f) refl (least-of l)

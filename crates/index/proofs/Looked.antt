@@ -15,6 +15,7 @@ use Rattle.record.specs.declared.Record.{Record}
 use Rattle.file.specs.File as records-file
 use Rattle.grammar.specs.Reading.{Reading, records, refusal-of, reading}
 use Rattle.verdict.specs.Verdict.{verdict}
+use Rattle.verdict.specs.Meaning.{Reads}
 use Rattle.verdict.proofs.Read.{refusal-low}
 use Rattle.verdict.proofs.Cases.{verdict-one-of}
 use Rattle.entry.specs.declared.Entry.{Entry}
@@ -22,6 +23,8 @@ use Rattle.entry.specs.Entries.{held}
 use Rattle.index.specs.declared.Sought.{Sought}
 use Rattle.index.specs.Index.{indexOf}
 use Rattle.index.specs.Answers.{orElse, inRows, differ, compared, consulted, noPlace, sought, found}
+use Rattle.index.proofs.Compared.{compared-same}
+use Rattle.index.proofs.Answered.{by-compared}
 
 -- AN ANSWER OF NUMBER 0 is that of the last of the chain, and is 0 in every field
 
@@ -55,6 +58,12 @@ module _ (s file index : List ℕ) where
       of (refusal-of r) e = λ h. absurd (let l = refusal-low s r e in omega arith)
       of (records rs) e =
           rows-nought 36 file _ (rows-nought 16 index _ (verdict-nought rs (records-file.held file) _ (compared-nought (held index) (indexOf s rs))))
+
+  -- an index that is accepted holds the one of the reading
+  pub consulted-held : consulted s (reading s) file index .number ≡ done → (rs : List Record) × Reads s rs × (held index ≡ indexOf s rs)
+  consulted-held h =
+      let (rs, q, a, w, e) = by-compared s file index done 0 (λ k. omega arith) .0 (consulted-nought h) in
+      (rs, q, compared-same (held index) (indexOf s rs) .0 e)
 
   -- LOOKING UP
 

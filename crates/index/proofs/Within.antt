@@ -1,7 +1,7 @@
 -- The entries of a reading fit their bytes as its records do, and each `at` is below the text's end, which is within the limit.
 use Prim.Native.Nat.{ℕ, _≤_, _<_}
 use native.Mathlib.Omega.{arith}
-use mathlib.Core.Path.{_≡_, refl}
+use mathlib.Core.Path.{_≡_, refl, ap}
 use mathlib.Core.Logic.{⊎-elim}
 use mathlib.Core.List.{List, [], _∷_, List·Memᴰ, List·Memᴰ·cases-cons, List·Memᴰ·not-nil, Permᴰ·refl}
 use lib.ListN.{length}
@@ -21,7 +21,7 @@ use Rattle.entry.specs.declared.Entry.{Entry}
 use Rattle.entry.specs.Entries.{held, encodedAll}
 use Rattle.entry.proofs.Laws.{InRange}
 use Rattle.entry.proofs.Held.{held-all}
-use Rattle.index.specs.Index.{indexOf}
+use Rattle.index.specs.Index.{entries, indexOf}
 use Rattle.index.specs.Answers.{noPlace}
 use Rattle.index.proofs.Entered.{mem-entries}
 use Rattle.index.proofs.Laws.{index-permutes}
@@ -45,6 +45,12 @@ place-below n (q ∷ rs) h r m = ⊎-elim (λ e. rw e (h .0)) (place-below n rs 
 -- no record of a reading is where no `at` is
 pub at-below : (s : List ℕ) (rs : List Record) → Reads s rs → (r : Record) → List·Memᴰ r rs → r .at < noPlace
 at-below s rs e r m = omega (arith, place-below (length s) rs (places-within s rs e) r m, short s rs e)
+
+-- nor is an entry
+pub entry-below : (s : List ℕ) (rs : List Record) → Reads s rs → (e : Entry) → List·Memᴰ e (entries rs) → e .at < noPlace
+entry-below s rs h e m =
+    let (r, n, t, q) = mem-entries e rs m in
+    omega (arith, ap (λ (g : Entry). g .at) q, at-below s rs h r n)
 
 -- entries fit their bytes
 entry-fits : (r : Record) (e : Entry) → RecordFits r → e .owner ≡ r .owner → e .name ≡ r .name → e .len ≡ r .len → e .at ≡ r .at → InRange e

@@ -19,6 +19,8 @@ use Rattle.grammar.specs.Reading.{reading}
 use Rattle.reader.specs.Answered.{room, answered, filled}
 use Rattle.verdict.specs.Verdict.{checked}
 use Rattle.render.specs.Written as W
+use Rattle.entry.specs.Entries as E
+use Rattle.index.specs.Answers as I
 use Rattle.lef.specs.declared.told.Span.{Span}
 
 -- `lef_read`: number, place and line, and the record buffer as it is left
@@ -66,3 +68,18 @@ spanOf text Found.Past = span 0 0
 
 abbrev pub nameSpan : List ℕ → List ℕ → ℕ → Span
 nameSpan text records index = spanOf text (recordAt records index)
+
+-- `lef_index`: number, place and line, and the buffer of the index as it is left
+abbrev pub indexNumbers : List ℕ → List ℕ → List ℕ → Refusal
+indexNumbers text records index = I.built text (reading text) records (E.count index)
+
+abbrev pub indexBuffer : List ℕ → List ℕ → List ℕ → List ℕ
+indexBuffer text records index = I.filled text (reading text) records index
+
+-- `lef_index_check`: number, place and line
+abbrev pub indexCheckNumbers : List ℕ → List ℕ → List ℕ → Refusal
+indexCheckNumbers text records index = I.consulted text (reading text) records index
+
+-- `lef_find`: refusal, place, line and `at`; no `at` is `noPlace`, the largest number of 32 bits
+abbrev pub findNumbers : List ℕ → List ℕ → List ℕ → ℕ → List ℕ → I.Numbers
+findNumbers text records index owner name = I.numbers (I.found text (reading text) records index owner name)

@@ -1,11 +1,12 @@
 // The C border of the library: calls on numbers and byte slices. Each returns the number of a refusal, 0 where there is none, and writes
 // all its other results behind the pointers that it is given.
 ghost use mathlib.Core.Path.{_≡_};
-ghost use Rattle.lef.specs.Border.{readNumbers, readBuffer, checkNumbers, writeNumbers, writeBuffer, tokenNumbers, forceNumbers, ownersNumbers, nameSpan};
+ghost use Rattle.lef.specs.Border.{readNumbers, readBuffer, checkNumbers, writeNumbers, writeBuffer, tokenNumbers, forceNumbers, ownersNumbers, nameSpan, indexNumbers, indexBuffer, indexCheckNumbers, findNumbers};
 use crate::told::byte_or;
 use crate::told::leave;
 use crate::told::span_of;
 use crate::told::tell;
+use index::Sought;
 use lexer::Screened;
 use lookup::Chain;
 use lookup::InForce;
@@ -18,6 +19,9 @@ mod told;
 
 // What stands for no index: where no record is in force, and on a refusal.
 const NONE: u64 = 18446744073709551615;
+
+// What stands for no `at`: where nothing is found, and on a refusal.
+const NOWHERE: u64 = 4294967295;
 
 // The records of a text, into the buffer.
 #[no_mangle]
@@ -173,4 +177,70 @@ pub extern "C" fn lef_name(
     *start = span.start as u64;
     *len = span.len as u64;
     0
+}
+
+// The index of a text's SITE blocks, MACROs and PINs, into the buffer.
+#[no_mangle]
+pub extern "C" fn lef_index(
+    text: &[u8],
+    records: &[u8],
+    index: &mut [u8],
+    place: &mut u64,
+    line: &mut u64,
+) -> u64
+    ensures { λ r. ⌜ r ≡ indexNumbers (now (text .entry)) (now (records .entry)) (now (index .entry)) .number ⌝ }
+    ensures { λ _. ⌜ now (place .exit) ≡ indexNumbers (now (text .entry)) (now (records .entry)) (now (index .entry)) .place ⌝ }
+    ensures { λ _. ⌜ now (line .exit) ≡ indexNumbers (now (text .entry)) (now (records .entry)) (now (index .entry)) .line ⌝ }
+    ensures { λ _. ⌜ now (index .exit) ≡ indexBuffer (now (text .entry)) (now (records .entry)) (now (index .entry)) ⌝ }
+{
+    tell(indexer::build(text, records, index), place, line)
+}
+
+// Whether an index is the one that would be built.
+#[no_mangle]
+pub extern "C" fn lef_index_check(
+    text: &[u8],
+    records: &[u8],
+    index: &[u8],
+    place: &mut u64,
+    line: &mut u64,
+) -> u64
+    ensures { λ r. ⌜ r ≡ indexCheckNumbers (now (text .entry)) (now (records .entry)) (now (index .entry)) .number ⌝ }
+    ensures { λ _. ⌜ now (place .exit) ≡ indexCheckNumbers (now (text .entry)) (now (records .entry)) (now (index .entry)) .place ⌝ }
+    ensures { λ _. ⌜ now (line .exit) ≡ indexCheckNumbers (now (text .entry)) (now (records .entry)) (now (index .entry)) .line ⌝ }
+{
+    tell(indexer::check(text, records, index), place, line)
+}
+
+// The `at` of the first SITE block, MACRO or PIN of an owner and a name.
+#[no_mangle]
+pub extern "C" fn lef_find(
+    text: &[u8],
+    records: &[u8],
+    index: &[u8],
+    owner: u64,
+    name: &[u8],
+    at: &mut u64,
+    place: &mut u64,
+    line: &mut u64,
+) -> u64
+    ensures { λ r. ⌜ r ≡ findNumbers (now (text .entry)) (now (records .entry)) (now (index .entry)) owner (now (name .entry)) .refusal ⌝ }
+    ensures { λ _. ⌜ now (at .exit) ≡ findNumbers (now (text .entry)) (now (records .entry)) (now (index .entry)) owner (now (name .entry)) .at ⌝ }
+    ensures { λ _. ⌜ now (place .exit) ≡ findNumbers (now (text .entry)) (now (records .entry)) (now (index .entry)) owner (now (name .entry)) .place ⌝ }
+    ensures { λ _. ⌜ now (line .exit) ≡ findNumbers (now (text .entry)) (now (records .entry)) (now (index .entry)) owner (now (name .entry)) .line ⌝ }
+{
+    match indexer::find(text, records, index, owner as usize, name) {
+        Sought::At(a) => {
+            *at = a as u64;
+            tell(Refusal::done(0), place, line)
+        }
+        Sought::Nowhere => {
+            *at = NOWHERE;
+            tell(Refusal::done(0), place, line)
+        }
+        Sought::Refused(refusal) => {
+            *at = NOWHERE;
+            tell(refusal, place, line)
+        }
+    }
 }

@@ -1,2 +1,6 @@
 pub mod Members
 pub mod Sorting
+pub mod Heap
+pub mod Runs
+pub mod Fronts
+pub mod Differing

@@ -1,2 +1,3 @@
 pub mod Order
 pub mod Counted
+pub mod Heap

@@ -1,4 +1,4 @@
--- The calls on texts and record files: each answer and each buffer is equated with a definition.
+-- The calls on texts, record files and indexes: each answer and each buffer is equated with a definition.
 -- `name` settles the bytes of the name, and not where they lie: `lef-name` settles that.
 use mathlib.Core.Path.{refl}
 use denote.Ref.{now}
@@ -16,6 +16,12 @@ use Rattle.lookup.proofs.owners as of-owners
 use Rattle.lookup.proofs.owners.Reads as of-owners-says
 use Rattle.lookup.proofs.name as of-name
 use Rattle.lookup.proofs.name.Reads as of-name-says
+use Rattle.indexer.proofs.build as of-build
+use Rattle.indexer.proofs.build.Reads as of-build-says
+use Rattle.indexer.proofs.check as of-check-index
+use Rattle.indexer.proofs.check.Reads as of-check-index-says
+use Rattle.indexer.proofs.find as of-find
+use Rattle.indexer.proofs.find.Reads as of-find-says
 
 pub read : Settles of-read.ended of-read-says.Learnt
 read κs i a b v w p q = (same (p .0) (q .0), λ i. (tt, (same (p .1) (q .1) i, tt)))
@@ -34,3 +40,12 @@ owners κs i a b v w p q = (same p q, refl)
 
 pub name : SettlesSeen of-name.ended (λ κs r. now r) of-name-says.Learnt
 name κs i a b v w p q = (same p q, refl)
+
+pub build : Settles of-build.ended of-build-says.Learnt
+build κs i a b v w p q = (same (p .0) (q .0), λ i. (tt, (tt, (same (p .1) (q .1) i, tt))))
+
+pub check-index : Settles of-check-index.ended of-check-index-says.Learnt
+check-index κs i a b v w p q = (same p q, refl)
+
+pub find : Settles of-find.ended of-find-says.Learnt
+find κs i a b v w p q = (same p q, refl)

@@ -1,4 +1,4 @@
--- The calls on tokens, numerals, words, records' bytes, and numbers in bytes: each answer and each buffer is equated with a definition.
+-- The calls on tokens, numerals, words, records' and entries' bytes, and numbers in bytes: each answer and each buffer is equated with a definition.
 use mathlib.Core.Path.{refl}
 use Rattle.settled.specs.Settled.{Settles}
 use Rattle.settled.proofs.Laws.{same}
@@ -48,6 +48,20 @@ use Rattle.little.proofs.lay as of-lay
 use Rattle.little.proofs.lay.Reads as of-lay-says
 use Rattle.rowfile.proofs.put as of-put-row
 use Rattle.rowfile.proofs.put.Reads as of-put-row-says
+use Rattle.rowfile.proofs.swap as of-swap
+use Rattle.rowfile.proofs.swap.Reads as of-swap-says
+use Rattle.entry.proofs.bytes as of-bytes-entry
+use Rattle.entry.proofs.bytes.Reads as of-bytes-entry-says
+use Rattle.entry.proofs.put as of-put-entry
+use Rattle.entry.proofs.put.Reads as of-put-entry-says
+use Rattle.entry.proofs.read as of-read-entry
+use Rattle.entry.proofs.read.Reads as of-read-entry-says
+use Rattle.entry.proofs.order.alike as of-alike
+use Rattle.entry.proofs.order.alike.Reads as of-alike-says
+use Rattle.entry.proofs.order.before as of-before
+use Rattle.entry.proofs.order.before.Reads as of-before-says
+use Rattle.entry.proofs.order.precedes as of-precedes
+use Rattle.entry.proofs.order.precedes.Reads as of-precedes-says
 
 pub screen : Settles of-screen.ended of-screen-says.Learnt
 screen κs i a b v w p q = (same p q, refl)
@@ -117,3 +131,24 @@ word64 κs i a b v w p q = (same p q, refl)
 
 pub put-row : Settles of-put-row.ended of-put-row-says.Learnt
 put-row κs i a b v w p q = (same (p .0) (q .0), λ i. (tt, (same (p .1) (q .1) i, (tt, tt))))
+
+pub swap : Settles of-swap.ended of-swap-says.Learnt
+swap κs i a b v w p q = (refl, λ i. (same p q i, (tt, (tt, (tt, tt)))))
+
+pub bytes-entry : Settles of-bytes-entry.ended of-bytes-entry-says.Learnt
+bytes-entry κs i a b v w p q = (same p q, refl)
+
+pub put-entry : Settles of-put-entry.ended of-put-entry-says.Learnt
+put-entry κs i a b v w p q = (same (p .0) (q .0), λ i. (tt, (same (p .1) (q .1) i, (tt, tt))))
+
+pub read-entry : Settles of-read-entry.ended of-read-entry-says.Learnt
+read-entry κs i a b v w p q = (same (p .0) (q .0), refl)
+
+pub alike : Settles of-alike.ended of-alike-says.Learnt
+alike κs i a b v w p q = (same p q, refl)
+
+pub before : Settles of-before.ended of-before-says.Learnt
+before κs i a b v w p q = (same p q, refl)
+
+pub precedes : Settles of-precedes.ended of-precedes-says.Learnt
+precedes κs i a b v w p q = (same p q, refl)

@@ -34,6 +34,8 @@ use Rattle.refusal.proofs.Refusal.«wrong_record» as of-wrong-record
 use Rattle.refusal.proofs.Refusal.«wrong_record».Reads as of-wrong-record-says
 use Rattle.refusal.proofs.Refusal.lacking as of-lacking
 use Rattle.refusal.proofs.Refusal.lacking.Reads as of-lacking-says
+use Rattle.refusal.proofs.Refusal.«index_differs» as of-index-differs
+use Rattle.refusal.proofs.Refusal.«index_differs».Reads as of-index-differs-says
 
 pub done : Settles of-done.ended of-done-says.Learnt
 done κs i a b v w p q = (same p q, refl)
@@ -82,3 +84,6 @@ wrong-record κs i a b v w p q = (same p q, refl)
 
 pub lacking : Settles of-lacking.ended of-lacking-says.Learnt
 lacking κs i a b v w p q = (same p q, refl)
+
+pub index-differs : Settles of-index-differs.ended of-index-differs-says.Learnt
+index-differs κs i a b v w p q = (same p q, refl)

@@ -1,0 +1,12 @@
+pub mod Filling
+pub mod Bracket
+pub mod Seeking
+pub mod Sameness
+pub mod Meetings
+pub mod Agreeing
+pub mod Deciding
+pub mod Passing
+pub mod Building
+pub mod Answering
+pub mod Consulting
+pub mod Finding

@@ -1,0 +1,4 @@
+pub mod Precedence
+pub mod Permuting
+pub mod Sinking
+pub mod Rounds
