@@ -25,7 +25,7 @@ use Rattle.grammar.proofs.Codes.{listed-fits}
 use Rattle.grammar.proofs.Listed.{all-listed, all-numbers}
 
 -- a text that has a reading is within the limit
-short : (s : List ℕ) (rs : List Record) → reading s ≡ records rs → length s ≤ limit
+pub short : (s : List ℕ) (rs : List Record) → reading s ≡ records rs → length s ≤ limit
 unfolding reading
 short s rs e = go (screened s) refl e
   where

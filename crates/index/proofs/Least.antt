@@ -44,11 +44,11 @@ so-entered r (inr (inr e)) = rw e
 module _ (s : List ℕ) (owner : ℕ) (name : List ℕ) where
   -- ENTRIES
 
-  bears-so : (e : Entry) → bears s owner name e ≡ true → (e .owner ≡ owner) × (nameOf s e ≡ name)
+  pub bears-so : (e : Entry) → bears s owner name e ≡ true → (e .owner ≡ owner) × (nameOf s e ≡ name)
   unfolding bears
   bears-so e h = let t = both (eqb (e .owner) owner) (alike (nameOf s e) name) h in (eqb-true _ _ (t .0), alike-same _ _ (t .1))
 
-  so-bears : (e : Entry) → e .owner ≡ owner → nameOf s e ≡ name → bears s owner name e ≡ true
+  pub so-bears : (e : Entry) → e .owner ≡ owner → nameOf s e ≡ name → bears s owner name e ≡ true
   unfolding bears
   so-bears e p q = rw (eq-eqb (e .owner) owner p, q, same-alike name)
 

@@ -1,5 +1,5 @@
 -- The entries of a reading fit their bytes as its records do, and each `at` is below the text's end, which is within the limit.
-use Prim.Native.Nat.{ℕ, _≤_, _<_}
+use Prim.Native.Nat.{ℕ, _<_}
 use native.Mathlib.Omega.{arith}
 use mathlib.Core.Path.{_≡_, refl, ap}
 use mathlib.Core.Logic.{⊎-elim}
@@ -8,13 +8,9 @@ use lib.ListN.{length}
 use Rattle.ordered.proofs.Members.{perm-mem}
 use Rattle.record.specs.declared.Record.{Record}
 use Rattle.record.specs.Range.{InRange as RecordFits}
-use Rattle.lexer.specs.declared.Screened.{Screened}
-use Rattle.lexer.specs.Lex.{from}
-use Rattle.lexer.specs.Screen.{limit, screened}
-use Rattle.lexer.proofs.Cleared.{clear-short}
 use Rattle.grammar.specs.Standing.{Every, placesOf}
-use Rattle.grammar.specs.Reading.{ahead, readAhead, Reading, records, refusal-of, told, reading}
 use Rattle.grammar.proofs.Places.{places-within}
+use Rattle.grammar.proofs.Ranges.{short}
 use Rattle.verdict.specs.Meaning.{Reads}
 use Rattle.verdict.proofs.Read.{reading-fits}
 use Rattle.entry.specs.declared.Entry.{Entry}
@@ -25,18 +21,6 @@ use Rattle.index.specs.Index.{entries, indexOf}
 use Rattle.index.specs.Answers.{noPlace}
 use Rattle.index.proofs.Entered.{mem-entries}
 use Rattle.index.proofs.Laws.{index-permutes}
-
--- a text that has a reading is within the limit
-short : (s : List ℕ) (rs : List Record) → Reads s rs → length s ≤ limit
-unfolding reading
-short s rs e = go (screened s) refl e
-  where
-    go : (c : Screened) → screened s ≡ c → elim c as (λ d. Reading) [
-      | Screened.Refused r ↦ refusal-of r
-      | Screened.Clear ↦ told (readAhead (ahead s (from s 0 1)))
-    ] ≡ records rs → length s ≤ limit
-    go (Screened.Refused r) h q = absurd (let z : _≡_ {A = ℕ} 0 1 = cc in omega arith)
-    go Screened.Clear h q = clear-short s h
 
 place-below : (n : ℕ) (rs : List Record) → Every (λ p. p < n) (placesOf rs) → (r : Record) → List·Memᴰ r rs → r .at < n
 place-below n [] h r m = absurd (List·Memᴰ·not-nil m)

@@ -1,19 +1,18 @@
 -- The bytes that sorting leaves are those of the index: the rows are those of the entries in another order, and of two that are apart the earlier comes before the later.
-use Prim.Native.Nat.{ℕ, zero, suc, _*_, _%_, _≤_, _<_}
-use native.Mathlib.Nat.{le-of-suc-le-suc, not-suc-le-zero, mul-zero, div-add-mod}
+use Prim.Native.Nat.{ℕ, zero, suc, _<_}
+use native.Mathlib.Nat.{le-of-suc-le-suc, not-suc-le-zero}
 use native.Mathlib.Omega.{arith}
 use mathlib.Core.Path.{_≡_, refl, sym, ap, ap₂, subst, _∙_}
 use mathlib.Core.Logic.{_⊎_, ⊎-elim}
 use mathlib.Core.Bool.{Bool, true, false, true≢false}
-use mathlib.Core.List.{List, [], _∷_, _++_, map, List·Memᴰ, List·Memᴰ·head, List·Memᴰ·tail, List·Memᴰ·cases-cons, List·Memᴰ·not-nil, List·Permᴰ, Permᴰ·map}
-use borrow.Author.Tests.{eqb-true}
-use lib.ListN.{length, take, drop, getD, length-drop, take-append-drop}
+use mathlib.Core.List.{List, [], _∷_, _++_, map, List·Memᴰ, List·Memᴰ·head, List·Memᴰ·tail, List·Memᴰ·cases-cons, List·Memᴰ·not-nil, List·Permᴰ, Permᴰ·map, Permᴰ·symm}
+use lib.ListN.{length, take, drop, getD}
 use lib.Seq.{take-at, drop-at}
 use Rattle.ordered.specs.Order.{Rising, Apart}
 use Rattle.ordered.proofs.Members.{perm-mem, apart-perm, get-mem}
 use Rattle.ordered.proofs.Sorting.{all-rising}
 use Rattle.rowfile.specs.Rows as rows
-use Rattle.rowfile.proofs.Parts.{next}
+use Rattle.rowfile.proofs.Held.{joined-rows}
 use Rattle.record.specs.declared.Record.{Record}
 use Rattle.file.specs.File as records
 use Rattle.entry.specs.declared.Entry.{Entry}
@@ -22,29 +21,10 @@ use Rattle.entry.specs.Order.{precedes}
 use Rattle.entry.proofs.Laws.{InRange, encoded-length, read-back}
 use Rattle.entry.proofs.Held.{held-length, held-at, all-whole, all-count}
 use Rattle.verdict.specs.Meaning.{Reads, Accepted}
-use Rattle.verdict.proofs.Read.{reading-fits}
-use Rattle.verdict.proofs.Judged.{accepted-order}
-use Rattle.index.specs.Index.{entryOf, entries, indexOf}
-use Rattle.index.proofs.Entered.{mem-entries}
-use Rattle.index.proofs.Laws.{apart-held, held-only}
+use Rattle.index.specs.Index.{entries, indexOf}
+use Rattle.index.proofs.Laws.{index-permutes, any-order, apart-held, held-only}
+use Rattle.index.proofs.Within.{index-fits}
 use Rattle.sorter.specs.Heap.{Sorts}
-
--- TEMPORARY
-empty : (l : List ℕ) → length l ≡ 0 → [] ≡ l
-empty [] h = refl
-empty (b ∷ l) h = absurd (omega arith)
-
-rows-front : (n m : ℕ) (file : List ℕ) → length file ≡ n * m → rows.joined (λ l. l) (rows.front n (λ l. l) m file) ≡ file
-unfolding rows.front rows.joined
-rows-front n zero file h = empty file (h ∙ mul-zero n)
-rows-front n (suc m) file h =
-    let left : length (drop n file) ≡ n * m = simp (length-drop) (omega (arith, next n m)) in
-    ap (_++_ (take n file)) (rows-front n m (drop n file) left) ∙ take-append-drop n file
-
-pub joined-rows : (n : ℕ) (file : List ℕ) → rows.whole n file ≡ true → rows.joined (λ l. l) (rows.held n (λ l. l) file) ≡ file
-joined-rows n file h = rows-front n (rows.count n file) file (omega (arith, div-add-mod (length file) n, eqb-true (length file % n) 0 h))
-
--- TEMPORARY END
 
 -- ROWS AS BYTES, AND WHAT THEY HOLD
 
@@ -81,7 +61,7 @@ of-entry (e ∷ es) l m =
     ⊎-elim (λ h. (e, List·Memᴰ·head refl, h)) (λ n. let (f, k, h) = of-entry es l n in (f, List·Memᴰ·tail k, h)) (List·Memᴰ·cases-cons m)
 
 -- of two things apart, by index
-pub apart-at : {A : Type 0} (before : A → A → Bool) (d : A) (l : List A) → Apart before l → (i j : ℕ) → i < j → j < length l
+apart-at : {A : Type 0} (before : A → A → Bool) (d : A) (l : List A) → Apart before l → (i j : ℕ) → i < j → j < length l
     → (before (getD l i d) (getD l j d) ≡ true) ⊎ (before (getD l j d) (getD l i d) ≡ true)
 apart-at before d [] h i j p q = absurd (not-suc-le-zero q)
 apart-at before d (a ∷ l) h i zero p q = absurd (not-suc-le-zero p)
@@ -128,19 +108,18 @@ module _ (s : List ℕ) (es : List Entry) (fits : (e : Entry) → List·Memᴰ e
           let no : precedes s (f j) (f i) ≡ false = rw (is i low, is j q) (sorts .sorted i j p (rw out-count at q)) in
           ⊎-elim (λ t. t) (λ t. absurd (true≢false (sym t ∙ no))) (apart-at (precedes s) (entry 0 0 0 0) (held out) (apart-perm (precedes s) out-permutes h) i j p q)
 
--- the entries of an accepted file are in range
-pub entries-fit : (s file : List ℕ) → Accepted s file → (e : Entry) → List·Memᴰ e (entries (records.held file)) → InRange e
-entries-fit s file a e m =
-    let (rs, q, w, p) = accepted-order s file a in
-    let (r, n, t, h) = mem-entries e (records.held file) m in
-    let fit = reading-fits s rs (records.held file) q p r n in
-    rw h (record { owner-fits = fit .owner-fits; name-fits = fit .name-fits; len-fits = fit .len-fits; at-fits = fit .at-fits })
+-- the entries of an accepted file are in range, as those of the reading are
+entries-fit : (s : List ℕ) (rs : List Record) (file : List ℕ) → Reads s rs → Accepted s file
+    → (e : Entry) → List·Memᴰ e (entries (records.held file)) → InRange e
+entries-fit s rs file q a e m =
+    let n : List·Memᴰ e (indexOf s rs) = rw (any-order s rs file q a) at (perm-mem (Permᴰ·symm (index-permutes s (records.held file))) m) in
+    index-fits s rs q e n
 
 -- the bytes of an accepted file's entries are sorted to those of the index
 pub sorted-bytes : (s : List ℕ) (rs : List Record) (file : List ℕ) → Reads s rs → Accepted s file
     → (out : List ℕ) → Sorts s (encodedAll (entries (records.held file))) out → out ≡ encodedAll (indexOf s rs)
 sorted-bytes s rs file e a out sorts =
     let es = entries (records.held file) in
-    let fits = entries-fit s file a in
+    let fits = entries-fit s rs file e a in
     out-bytes s es fits out sorts
     ∙ ap encodedAll (held-only s rs file e a (held out) (out-rises s es fits out sorts (apart-held s file a)) (out-permutes s es fits out sorts))

@@ -1,5 +1,5 @@
 -- Going through the records of a file: one record more has its entry behind those before it, and an entry more is laid behind those before it.
-use Prim.Native.Nat.{ℕ, zero, suc, _+_, _-_, _*_, _/_, _≤_, _<_}
+use Prim.Native.Nat.{ℕ, suc, _+_, _-_, _*_, _≤_, _<_}
 use mathlib.Core.Path.{_≡_, refl, sym, ap, _∙_}
 use mathlib.Core.Bool.{Bool, true, false, cond}
 use mathlib.Core.List.{List, [], _∷_, _++_, append-assoc, append-nil}
@@ -16,7 +16,6 @@ use Rattle.file.specs.File.{front, held, recordIn}
 use Rattle.file.specs.File as records
 use Rattle.entry.specs.declared.Entry.{Entry}
 use Rattle.entry.specs.Entries.{encoded, encodedAll, count, stored}
-use Rattle.entry.proofs.Laws.{encoded-length}
 use Rattle.entry.proofs.Held.{all-length}
 use Rattle.index.specs.Index.{entered, entryOf, entries}
 
@@ -73,9 +72,11 @@ module _ (file : List ℕ) where
   pub passed-within : (i : ℕ) → i ≤ records.count file → length (passed i) ≤ length (entries (held file))
   passed-within i h =
       let e : i + (records.count file - i) ≡ records.count file = omega arith in
-      let rest = entries (rows.front 36 decoded (records.count file - i) (drop (36 * i) file)) in
-      let all : entries (held file) ≡ passed i ++ rest =
-      ap (λ n. entries (front n file)) (sym e) ∙ ap entries (front-append 36 decoded i (records.count file - i) file) ∙ entries-append (front i file) (rows.front 36 decoded (records.count file - i) (drop (36 * i) file)) in
+      let rest = rows.front 36 decoded (records.count file - i) (drop (36 * i) file) in
+      let all : entries (held file) ≡ passed i ++ entries rest =
+      ap (λ n. entries (front n file)) (sym e)
+      ∙ ap entries (front-append 36 decoded i (records.count file - i) file)
+      ∙ entries-append (front i file) rest in
       rw (all, length-append) (omega arith)
 
 -- ONE MORE ENTRY LAID

@@ -13,9 +13,9 @@ use Rattle.entry.specs.declared.Entry.{Entry}
 use Rattle.entry.specs.Order.{keyOf, precedes}
 use Rattle.entry.proofs.Ordered.{before-irreflexive, before-transitive}
 use Rattle.index.specs.Answers.{same}
-use Rattle.index.proofs.Compared.{both, same-equal, same-true}
 use Rattle.indexer.specs.declared.differ.Met.{Met}
 use Rattle.indexer.specs.Inner.{Rises, Lower, Stands, Lacks, Meets, Meeting}
+use Rattle.index.proofs.Compared.{both, same-equal, same-true}
 
 -- THE FRONT THAT RISES
 

@@ -2,16 +2,18 @@
 use Prim.Native.Nat.{ℕ, _+_, _≤_}
 use native.Mathlib.Omega.{arith}
 use mathlib.Core.Path.{_≡_, sym, ap, subst, _∙_}
+use mathlib.Core.Logic.{_⊎_, inl, inr, ⊎-elim}
 use mathlib.Core.Bool.{Bool, true, false, cond}
 use mathlib.Core.List.{List, [], _∷_, _++_}
-use Rattle.ordered.specs.Counted.{upTo}
+use Rattle.ordered.specs.Counted.{upTo, total}
+use Rattle.ordered.proofs.Totals.{total-more, total-none}
 use Rattle.ordered.proofs.Fronts.{upto-few, upto-more}
 use Rattle.file.specs.File.{recordIn}
 use Rattle.entry.specs.declared.Entry.{Entry}
 use Rattle.entry.specs.Order.{precedes}
 use Rattle.index.specs.Index.{entered, entryOf}
 use Rattle.indexer.specs.declared.differ.Met.{Met}
-use Rattle.indexer.specs.Inner.{Meets, Meeting}
+use Rattle.indexer.specs.Inner.{largest, len, Weighs, Meets, Meeting}
 use Rattle.indexer.proofs.Filling.{passed, passed-none, passed-few, passed-entered, passed-other}
 use Rattle.indexer.proofs.Meetings.{meeting-more}
 
@@ -49,3 +51,18 @@ module _ (file : List ℕ) (i : ℕ) (b : Bool) (is : b ≡ entered (recordIn fi
 
     pub count-other : b ≡ false → n ≡ upTo (precedes s) e (passed file (i + 1))
     count-other h = so-far ∙ ap (upTo (precedes s) e) (sym (passed-other file i b is h))
+
+  -- what the names weigh
+  module _ (n : ℕ) (so-far : Weighs (total len (passed file i)) n) where
+    pub weighs-entered : b ≡ true → (x : Entry) → x ≡ entryOf (recordIn file i) → (r : ℕ) → r ≤ largest → (n + x .len ≤ r) ⊎ (r ≡ largest)
+        → Weighs (total len (passed file (i + 1))) r
+    weighs-entered h x of r most t =
+        let one : total len (passed file (i + 1)) ≡ total len (passed file i) + x .len =
+        ap (total len) (passed-entered file i b is h ∙ ap (λ y. passed file i ++ y ∷ []) (sym of)) ∙ total-more len (passed file i) x in
+        ⊎-elim (λ g. ⊎-elim (λ w. inl (omega arith)) (λ w. inr (omega arith)) so-far) inr t
+
+    pub weighs-other : b ≡ false → Weighs (total len (passed file (i + 1))) n
+    weighs-other h = subst (λ es. Weighs (total len es) n) (sym (passed-other file i b is h)) so-far
+
+pub weighs-first : (file : List ℕ) → Weighs (total len (passed file 0)) 0
+weighs-first file = inl (omega (arith, ap (total len) (passed-none file), total-none len))

@@ -1,4 +1,4 @@
--- The first position at which two lists of entries differ is the one that has what it says: each earlier one is passed as the same.
+-- The first position at which two lists of entries differ is the one that has what it says.
 use Prim.Native.Nat.{ℕ, zero, suc, zero-le, suc-le-suc}
 use native.Mathlib.Nat.{le-of-suc-le-suc}
 use native.Mathlib.Omega.{arith}

@@ -5,7 +5,7 @@ use mathlib.Core.Path.{_≡_}
 use mathlib.Core.Logic.{_⊎_}
 use mathlib.Core.Bool.{true, false}
 use mathlib.Core.List.{List, List·Memᴰ}
-use Rattle.ordered.specs.Counted.{upTo}
+use Rattle.ordered.specs.Counted.{upTo, totalTo}
 use Rattle.entry.specs.declared.Entry.{Entry}
 use Rattle.entry.specs.Entries.{count, entryIn}
 use Rattle.entry.specs.Order.{Key, keyOf, before, precedes}
@@ -17,11 +17,23 @@ use Rattle.indexer.specs.declared.differ.Met.{Met}
 abbrev pub Rises : List ℕ → (ℕ → Entry) → ℕ → Type 0
 Rises s f n = (i j : ℕ) → i < j → j < n → precedes s (f i) (f j) ≡ true
 
--- the index rises over its first n entries, and no further
-pub record Rising (s index : List ℕ) (n : ℕ) : Type 0 where
+-- the largest number, and how many bytes a name has
+abbrev pub largest : ℕ
+largest = 18446744073709551615
+
+abbrev pub len : Entry → ℕ
+len e = e .len
+
+-- n is a sum, or no less, or the largest number
+abbrev pub Weighs : ℕ → ℕ → Type 0
+Weighs sum n = (sum ≤ n) ⊎ (n ≡ largest)
+
+-- the index rises over its first n entries; the next does not come after them, or with it their names have more than so many bytes
+pub record Rising (s index : List ℕ) (most n : ℕ) : Type 0 where
   pub within : n ≤ count index
   pub rises : Rises s (entryIn index) n
-  pub stop : n < count index → (0 < n) × (precedes s (entryIn index (n - 1)) (entryIn index n) ≡ false)
+  pub stop : n < count index
+      → ((0 < n) × (precedes s (entryIn index (n - 1)) (entryIn index n) ≡ false)) ⊎ ((most < largest) × (most < totalTo len (entryIn index) (n + 1)))
 
 -- p is the first of the first n positions whose entry does not come before the key, or n
 pub record Lower (s : List ℕ) (f : ℕ → Entry) (n : ℕ) (k : Key) (p : ℕ) : Type 0 where

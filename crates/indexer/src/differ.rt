@@ -2,7 +2,8 @@
 // is looked for in the front of the index that rises; only where one is lacking, or one too many stands there, are the records counted again.
 ghost use mathlib.Core.Path.{_≡_};
 ghost use mathlib.Core.Bool.{_&&_};
-ghost use Prim.Native.Nat.{_/_, _≤_, min};
+ghost use mathlib.Core.Logic.{_⊎_};
+ghost use Prim.Native.Nat.{_+_, _/_, _≤_, min};
 ghost use lib.Dec.{ltb};
 ghost use lib.ListN.{length};
 ghost use Rattle.file.specs.File.{held as heldRecords};
@@ -10,9 +11,9 @@ ghost use Rattle.entry.specs.Entries.{held, entryIn};
 ghost use Rattle.entry.specs.Order.{precedes};
 ghost use Rattle.index.specs.Index.{entries};
 ghost use Rattle.ordered.specs.Order.{Apart, sorted};
-ghost use Rattle.ordered.specs.Counted.{upTo};
+ghost use Rattle.ordered.specs.Counted.{upTo, total};
 ghost use Rattle.index.specs.Answers.{same, differ};
-ghost use Rattle.indexer.specs.Inner.{Rises, Rising, Meets, Meeting, Agrees};
+ghost use Rattle.indexer.specs.Inner.{Rises, largest, len, Weighs, Rising, Meets, Meeting, Agrees};
 use crate::fill::entered_in;
 use crate::fill::entry_of;
 use crate::fill::is_entered;
@@ -21,23 +22,60 @@ use entry::Entry;
 use entry::order::precedes;
 use record::Record;
 
+// The largest number.
+const LARGEST: usize = 18446744073709551615;
+
 // The least position before which no entry of the records is lacking, and whether none is lacking at all.
 pub struct Met {
     pub first: usize,
     pub all: bool,
 }
 
-// How far each entry of the index comes before the next.
-fn rising(text: &[u8], index: &[u8]) -> usize
-    ensures { λ n. ⌜ Rising (now (text .entry)) (now (index .entry)) n ⌝ }
+// A sum, or the largest number where that is less.
+fn sum(a: usize, b: usize) -> usize
+    ensures { λ r. ⌜ (r ≤ a + b) × (r ≤ largest) × ((a + b ≤ r) ⊎ (r ≡ largest)) ⌝ }
+{
+    if LARGEST - a < b {
+        return LARGEST;
+    }
+    a + b
+}
+
+// The bytes of the names of all entries of the records.
+fn named_in(records: &[u8]) -> usize
+    ensures { λ n. ⌜ Weighs (total len (entries (heldRecords (now (records .entry))))) n ⌝ }
+{
+    let count = records.len() / Record::SIZE;
+    let mut n = 0;
+    let mut i = 0;
+    while i < count {
+        if is_entered(records, i) {
+            let e = entry_of(records, i);
+            n = sum(n, e.len);
+        }
+        i += 1;
+    }
+    n
+}
+
+// How far each entry of the index comes before the next, while their names have no more than so many bytes: else an index from outside could have
+// the whole text compared with itself for each of its entries.
+fn rising(text: &[u8], index: &[u8], most: usize) -> usize
+    ensures { λ n. ⌜ Rising (now (text .entry)) (now (index .entry)) most n ⌝ }
 {
     let count = index.len() / Entry::SIZE;
     if count == 0 {
         return 0;
     }
+    let mut named = 0;
     let mut n = 1;
     while n < count {
-        if !precedes(text, entry::read(index, n - 1), entry::read(index, n)) {
+        let e = entry::read(index, n);
+        named = sum(named, e.len);
+        if most < named {
+            return n;
+        }
+        if !precedes(text, entry::read(index, n - 1), e) {
             return n;
         }
         n += 1;
@@ -147,7 +185,7 @@ pub(crate) fn differ(text: &[u8], records: &[u8], index: &[u8]) -> usize
     requires { ⌜ Apart (precedes (now text)) (entries (heldRecords (now records))) ⌝ }
     ensures { λ p. ⌜ p ≡ differ (held (now (index .entry))) (sorted (precedes (now (text .entry))) (entries (heldRecords (now (records .entry))))) ⌝ }
 {
-    let n = rising(text, index);
+    let n = rising(text, index, named_in(records));
     let met = meet(text, records, index, n);
     if met.all {
         if n == entered_in(records) {

@@ -61,7 +61,7 @@ pub fn check(text: &[u8], records: &[u8], index: &[u8]) -> Refusal
     if index.len() % Entry::SIZE != 0 {
         return Refusal::not_whole(index.len());
     }
-    if number != Refusal::DONE {
+    if Refusal::DONE < number {
         return answer;
     }
     check_accepted(text, records, index)

@@ -9,9 +9,10 @@ use mathlib.Core.Bool.{Bool, true, false, true≢false}
 use mathlib.Core.List.{List, List·Memᴰ, List·Permᴰ, Permᴰ·symm}
 use lib.ListN.{length, getD}
 use Rattle.ordered.specs.Order.{Order, Rising}
-use Rattle.ordered.specs.Counted.{upTo}
+use Rattle.ordered.specs.Counted.{upTo, total, totalTo}
 use Rattle.ordered.proofs.Members.{perm-mem, perm-length, get-mem, mem-get}
 use Rattle.ordered.proofs.Sorting.{rising-all}
+use Rattle.ordered.proofs.Totals.{total-perm, weighs-least, weighs-same}
 use Rattle.ordered.proofs.Runs.{Climbs, climbs-less, runs-same}
 use Rattle.ordered.proofs.Fronts.{Upto, upto, upto-own, upto-perm}
 
@@ -71,6 +72,15 @@ module _ {A : Type 0} {before : A → A → Bool} (o : Order before) (d : A) {l 
   wanted-in : (k : ℕ) → k < length l → List·Memᴰ (getD l k d) es
   wanted-in k h = perm-mem perm (get-mem l d k h)
 
+  -- what does not come after the one before it is not the next of the sorted list
+  pub not-after : 0 < n → before (f (n - 1)) (f n) ≡ false → n < length l → ((k : ℕ) → k ≤ n → f k ≡ getD l k d) → ⊥
+  not-after n0 b nl s = true≢false (sym (up (n - 1) n (omega arith) nl) ∙ rw (← s n (omega arith), ← s (n - 1) (omega arith)) b)
+
+  -- nor are those that weigh more than all of it
+  pub too-heavy : (weight : A → ℕ) → total weight es < totalTo weight f (n + 1) → n < length l → ((k : ℕ) → k ≤ n → f k ≡ getD l k d) → ⊥
+  too-heavy weight h nl s =
+      omega (arith, total-perm weight perm, weighs-least weight d l (n + 1) (omega arith), weighs-same weight f (λ i. getD l i d) (n + 1) (λ k p. s k (omega arith)))
+
   -- none of es is lacking, and the front has no more than these
   pub differs-none : n ≡ length es → ((e : A) → List·Memᴰ e es → Among f n e) → Differs d f c l n
   differs-none ne t = record {
@@ -83,7 +93,7 @@ module _ {A : Type 0} {before : A → A → Bool} (o : Order before) (d : A) {l 
   -- of es each that does not come after all of the first p of the front stands there, and one that would stand at p is lacking;
   -- q things, and with the one at q not one more, do not come after the one before q
   module _ (p : ℕ) (pn : p ≤ n)
-      (stop : n < c → (0 < n) × (before (f (n - 1)) (f n) ≡ false))
+      (stop : n < c → n < length l → ((k : ℕ) → k ≤ n → f k ≡ getD l k d) → ⊥)
       (each : (e : A) → List·Memᴰ e es → Among f n e ⊎ ((k : ℕ) → k < p → before (f k) e ≡ true))
       (lack : p < n → (e : A) × List·Memᴰ e es × Missing f n e × (before (f p) e ≡ false))
       (q : ℕ) (qp : q ≤ p)
@@ -119,12 +129,12 @@ module _ {A : Type 0} {before : A → A → Bool} (o : Order before) (d : A) {l 
           ]
         ]
 
-    -- the one at n does not come after the one before
+    -- the first n and the one at n are not those of the sorted list
     not-risen : q ≡ n → n < c → q < length l → f q ≡ getD l q d → ⊥
-    not-risen e h ql s =
-        let (n0, b) = stop h in
-        let z : before (f (q - 1)) (f q) ≡ false = rw e b in
-        true≢false (sym (up (q - 1) q (omega arith) ql) ∙ rw (← s, ← fronts .1 (q - 1) (omega arith)) z)
+    not-risen e h ql s = stop h (omega arith) (λ k r. elim (decLt k q) [
+      | yes u ↦ fronts .1 k u
+      | no u ↦ let z : k ≡ q = omega arith in rw z s
+    ])
 
     pub differs-at : Differs d f c l q
     differs-at = record {

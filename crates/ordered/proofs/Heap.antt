@@ -87,14 +87,6 @@ module _ {A : Type 0} (before : A → A → Bool) (o : Order before) where
   ]
 
   -- if the greatest does not, none does
-  pub sinking-rest : (f : ℕ → A) (start i n c : ℕ)
-      → Sinking before f start i n
-      → Greatest before f i n c
-      → before (f i) (f c) ≡ false
-      → Heap before f start n
-  sinking-rest f start i n c s g h =
-      sinking-end f start i n s (λ d k m. not-after-trans (f d) (f c) (f i) (g .greatest d k m) h)
-
   -- what sinks is exchanged with the greatest child
   module _ (f g : ℕ → A) (start i n c : ℕ) (s : Sinking before f start i n) (t : Greatest before f i n c) (h : before (f i) (f c) ≡ true)
       (x : Exchanged f g i c) where

@@ -3,4 +3,5 @@ pub mod Sorting
 pub mod Heap
 pub mod Runs
 pub mod Fronts
+pub mod Totals
 pub mod Differing

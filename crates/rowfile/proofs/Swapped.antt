@@ -1,6 +1,6 @@
 -- Two rows that are exchanged: each is read where the other was, and all others where they were, so that the rows are the same in another order.
 use Prim.Native.Nat.{ℕ, zero, suc, _+_, _-_, _*_, _≤_, _<_}
-use mathlib.Core.Path.{_≡_, refl, sym, ap, ap₂, subst, _∙_}
+use mathlib.Core.Path.{_≡_, refl, sym, ap, subst, _∙_}
 use mathlib.Core.Bool.{true}
 use mathlib.Core.Logic.{_≢_}
 use mathlib.Core.List.{List, [], _∷_, List·Permᴰ, List·Permᴰ·cons, List·Permᴰ·swap, List·Permᴰ·trans}
@@ -9,7 +9,7 @@ use native.Mathlib.Nat.{le-of-suc-le-suc, div-zero}
 use native.Mathlib.Numerals.{add-one}
 use native.Mathlib.Omega.{arith}
 use borrow.Author.Tests.{lt-ltb}
-use lib.ListN.{length, take, drop, getD, set, length-set, length-drop}
+use lib.ListN.{length, drop, getD, set, length-set, length-drop}
 use lib.Seq.{sets, set-comm, drop-cons, drop-set-lt, getD-set-same, getD-set-other, ext-getD}
 use Rattle.rowfile.specs.Rows.{count, hasRoom, rowAt, held, stored, swapped}
 use Rattle.rowfile.proofs.Parts.{in-file, apart, row-byte, row-length}

@@ -1,4 +1,5 @@
 pub mod Precedence
+pub mod Giving
 pub mod Permuting
 pub mod Sinking
 pub mod Rounds

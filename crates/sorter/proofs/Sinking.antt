@@ -1,19 +1,17 @@
 -- An entry that sinks: so far the rows are the same in another order, those from n on are kept, and only it may come before its children.
-use Prim.Native.Nat.{ℕ, _+_, _*_, _≤_, _<_}
+use Prim.Native.Nat.{ℕ, _+_, _≤_, _<_}
 use mathlib.Core.Path.{_≡_, refl, _∙_}
-use mathlib.Core.Logic.{⊎-elim}
 use mathlib.Core.Bool.{true, false}
 use mathlib.Core.List.{List}
 use native.Mathlib.Decide.{ℕ-discrete}
 use native.Mathlib.Omega.{arith}
-use Rattle.ordered.specs.Heap.{Heap, Sinking, Greatest}
-use Rattle.ordered.proofs.Heap.{sinking-start, sinking-next, sinking-end, sinking-rest, child-behind}
+use Rattle.ordered.specs.Heap.{Child, Heap, Sinking, Greatest}
+use Rattle.ordered.proofs.Heap.{sinking-start, sinking-next, sinking-end, child-behind}
 use Rattle.rowfile.specs.Rows.{swapped}
-use Rattle.entry.specs.declared.Entry.{Entry}
 use Rattle.entry.specs.Entries.{count, entryIn}
 use Rattle.entry.specs.Order.{precedes}
 use Rattle.entry.proofs.Ordered.{precedes-order}
-use Rattle.sorter.specs.Heap.{Permuted, Greater, Sifts}
+use Rattle.sorter.specs.Heap.{Permuted, Sifts}
 use Rattle.sorter.proofs.Permuting.{permuted-same, permuted-count, permuted-then, permuted-swapped, exchanged-entries}
 
 pub record Sinks (s : List ℕ) (start n i : ℕ) (file now : List ℕ) : Type 0 where
@@ -24,10 +22,6 @@ pub record Sinks (s : List ℕ) (start n i : ℕ) (file now : List ℕ) : Type 0
   pub kept : (k : ℕ) → n ≤ k → entryIn now k ≡ entryIn file k
   pub among : (k : ℕ) → k < n → (j : ℕ) × (j < n) × (entryIn now k ≡ entryIn file j)
   pub sinking : Heap (precedes s) (entryIn file) (start + 1) n → Sinking (precedes s) (entryIn now) start i n
-
--- where there is a child, it is the greatest
-pub a-child : {s : List ℕ} {f : ℕ → Entry} {i n c : ℕ} → Greater s f i n c → (c ≡ n → ⊥) → Greatest (precedes s) f i n c
-a-child g h = g .found (omega (arith, g .within, h))
 
 pub sinks-start : (s : List ℕ) (start n : ℕ) (file : List ℕ) → start < n → Sinks s start n start file file
 sinks-start s start n file h = record {
@@ -48,17 +42,12 @@ module _ (s : List ℕ) (start n i : ℕ) (file now : List ℕ) (h : Sinks s sta
   sinks-end : (Heap (precedes s) (entryIn file) (start + 1) n → Heap (precedes s) (entryIn now) start n) → Sifts s start n file now
   sinks-end p = record { permuted = h .permuted; kept = h .kept; among = h .among; heap = p }
 
-  -- without children
-  pub sinks-none : n ≤ 2 * i + 1 → Sifts s start n file now
-  sinks-none l =
-      sinks-end (λ p. sinking-end (precedes s) (precedes-order s) (entryIn now) start i n (h .sinking p)
-      (λ c k m. absurd (⊎-elim {C = ⊥} (λ e. omega arith) (λ e. omega arith) k)))
+  -- no child comes after it
+  pub sinks-none : ((d : ℕ) → Child i d → d < n → precedes s (entryIn file start) (entryIn now d) ≡ false) → Sifts s start n file now
+  sinks-none none =
+      sinks-end (λ p. sinking-end (precedes s) (precedes-order s) (entryIn now) start i n (h .sinking p) (λ d k m. rw (h .here) (none d k m)))
 
   module _ (c : ℕ) (g : Greatest (precedes s) (entryIn now) i n c) where
-    -- its greatest child does not come after it
-    pub sinks-rest : precedes s (entryIn now i) (entryIn now c) ≡ false → Sifts s start n file now
-    sinks-rest e = sinks-end (λ p. sinking-rest (precedes s) (precedes-order s) (entryIn now) start i n c (h .sinking p) g e)
-
     -- it is exchanged with its greatest child
     module _ (fits : n ≤ count now) where
       deeper : i < c
@@ -97,5 +86,5 @@ module _ (s : List ℕ) (start n i : ℕ) (file now : List ℕ) (h : Sinks s sta
             (exchanged-entries now i c deeper inside);
       }
 
-      pub sinks-next : (out : List ℕ) → out ≡ swapped 16 i c now → precedes s (entryIn now i) (entryIn now c) ≡ true → Sinks s start n c file out
-      sinks-next out q e = rw q (exchanged e)
+      pub sinks-next : (out : List ℕ) → out ≡ swapped 16 i c now → precedes s (entryIn file start) (entryIn now c) ≡ true → Sinks s start n c file out
+      sinks-next out q e = rw q (exchanged (rw (h .here) e))

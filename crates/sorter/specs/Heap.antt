@@ -1,10 +1,10 @@
 -- Inner machinery, which nobody has to believe: what the functions that sort ensure. Here f gives the entries of a file by their position.
 use Prim.Native.Nat.{ℕ, _+_, _*_, _≤_, _<_}
 use mathlib.Core.Path.{_≡_}
-use mathlib.Core.Bool.{false}
+use mathlib.Core.Bool.{true, false}
 use mathlib.Core.List.{List, List·Permᴰ}
 use lib.ListN.{length, drop}
-use Rattle.ordered.specs.Heap.{Heap, Greatest}
+use Rattle.ordered.specs.Heap.{Child, Heap, Greatest}
 use Rattle.rowfile.specs.Rows as rows
 use Rattle.entry.specs.declared.Entry.{Entry}
 use Rattle.entry.specs.Entries.{count, entryIn}
@@ -14,11 +14,12 @@ use Rattle.entry.specs.Order.{precedes}
 abbrev pub NotAfter : List ℕ → Entry → Entry → Type 0
 NotAfter s e d = precedes s d e ≡ false
 
--- c is a child of i among the first n that no child of i comes after, or n where there is no child
-pub record Greater (s : List ℕ) (f : ℕ → Entry) (i n c : ℕ) : Type 0 where
+-- c is a child of i among the first n that comes after e and that no child of i comes after, or n where no child comes after e
+pub record Gives (s : List ℕ) (f : ℕ → Entry) (e : Entry) (i n c : ℕ) : Type 0 where
   pub within : c ≤ n
-  pub none : c ≡ n → n ≤ 2 * i + 1
+  pub none : c ≡ n → (d : ℕ) → Child i d → d < n → precedes s e (f d) ≡ false
   pub found : c < n → Greatest (precedes s) f i n c
+  pub after : c < n → precedes s e (f c) ≡ true
 
 -- the rows of `out` are those of the file in some order, and the bytes past the last row are as they were
 pub record Permuted (file out : List ℕ) : Type 0 where

@@ -3,24 +3,37 @@ ghost use mathlib.Core.Path.{_≡_};
 ghost use Prim.Native.Nat.{_/_, _≤_, _<_};
 ghost use lib.ListN.{length};
 ghost use Rattle.entry.specs.Entries.{entryIn};
-ghost use Rattle.sorter.specs.Heap.{Greater, Sifts, Heaps, Sorts};
+ghost use Rattle.sorter.specs.Heap.{Gives, Sifts, Heaps, Sorts};
 use entry::Entry;
 use entry::order::precedes;
 
-// The child of an entry that the other does not come after, or n where it has none among the first n.
-fn greater_child(text: &[u8], file: &[u8], i: usize, n: usize) -> usize
+// The child that the sinking entry gives way to: it comes after that, and the other child does not come after it; or n where none of the first
+// n does. Children are compared with each other only where one of them goes up, so that long names cost no more than they move.
+fn rising_child(text: &[u8], file: &[u8], sinking: Entry, i: usize, n: usize) -> usize
     requires { ⌜ (i < n) × (n ≤ length (now file) / 16) ⌝ }
-    ensures { λ c. ⌜ Greater (now (text .entry)) (entryIn (now (file .entry))) i n c ⌝ }
+    ensures { λ c. ⌜ Gives (now (text .entry)) (entryIn (now (file .entry))) sinking i n c ⌝ }
 {
     let left = 2 * i + 1;
     if n <= left {
         return n;
     }
+    let first = entry::read(file, left);
     let right = 2 * i + 2;
-    if right < n {
-        if precedes(text, entry::read(file, left), entry::read(file, right)) {
+    if n <= right {
+        if precedes(text, sinking, first) {
+            return left;
+        }
+        return n;
+    }
+    let second = entry::read(file, right);
+    if !precedes(text, sinking, first) {
+        if precedes(text, sinking, second) {
             return right;
         }
+        return n;
+    }
+    if precedes(text, first, second) {
+        return right;
     }
     left
 }
@@ -34,11 +47,8 @@ fn sift(text: &[u8], file: &mut [u8], start: usize, n: usize)
     let sinking = entry::read(file, start);
     let mut i = start;
     loop {
-        let c = greater_child(text, file, i, n);
+        let c = rising_child(text, file, sinking, i, n);
         if c == n {
-            break;
-        }
-        if !precedes(text, sinking, entry::read(file, c)) {
             break;
         }
         rowfile::swap(file, Entry::SIZE, i, c);

@@ -9,8 +9,8 @@ returns : tie.Need-returns
 returns c =
     let a = c .before .before .before .before .before .before .args in
     let k = c .before .before .check in (
-      built-refused (a .text .now) (a .records .now) (k .result) (k .ensures) (count (a .index .now)) (c .if1 .taken),
-      filled-refused (a .text .now) (a .records .now) (k .result) (k .ensures) (a .index .now) (c .if1 .taken),
+      built-refused (a .text .now) (a .records .now) (k .result) (k .ensures) (c .if1 .taken) (count (a .index .now)),
+      filled-refused (a .text .now) (a .records .now) (k .result) (k .ensures) (c .if1 .taken) (a .index .now),
     )
 
 build-accepted-requires : tie.Need-build-accepted-requires

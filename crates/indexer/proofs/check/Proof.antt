@@ -29,13 +29,13 @@ returns-3 c =
     let a = c .before .before .before .before .before .before .before .args in
     let k = c .before .before .before .check in
     let late : k .result .number < 14 → k .result .number ≡ 0 = λ l. ⊎-elim (λ w. absurd (omega (arith, w .1 .left))) (λ w. w .left) (c .before .before .if1 .came) in
-    consulted-late (a .text .now) (a .records .now) (k .result) (k .ensures) (a .index .now) late (c .if4 .taken) (eq-eqb (length (a .index .now) % 16) 0 (c .before .if3 .left))
+    consulted-late (a .text .now) (a .records .now) (k .result) (k .ensures) (a .index .now) late (λ z. omega (arith, c .if4 .taken)) (eq-eqb (length (a .index .now) % 16) 0 (c .before .if3 .left))
 
 check-accepted-requires : tie.Need-check-accepted-requires
 check-accepted-requires c κs =
     let a = c .before .before .before .before .before .before .before .args in
     let k = c .before .before .before .check in
-    (accepted-by (a .text .now) (a .records .now) (k .result) (k .ensures) (c .if4 .left), eq-eqb (length (a .index .now) % 16) 0 (c .before .if3 .left))
+    (accepted-by (a .text .now) (a .records .now) (k .result) (k .ensures) (omega (arith, c .if4 .left)), eq-eqb (length (a .index .now) % 16) 0 (c .before .if3 .left))
 
 pub check-spec : {M : Type 1} → statement M
 check-spec =

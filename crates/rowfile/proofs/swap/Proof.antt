@@ -1,13 +1,11 @@
 -- `rowfile::swap` meets its contract: the bytes exchanged so far, and the rest of both rows laid on from there, come to the rows exchanged.
-use Prim.Native.Nat.{ℕ, suc, _+_, _-_, _*_, _≤_, _<_}
+use Prim.Native.Nat.{ℕ, _+_, _-_, _*_, _≤_, _<_}
 use mathlib.Core.Path.{_≡_, refl, sym, _∙_}
-use borrow.Author.Needs.{needs}
 use native.Mathlib.Nat.{add-zero}
 use native.Mathlib.Omega.{arith}
 use lib.ListN.{length, drop, getD, length-set, drop-of-length-le}
 use lib.Seq.{sets}
 use Rattle.rowfile.specs.Rows.{rowAt}
-use Rattle.rowfile.proofs.Parts.{apart, in-file}
 use Rattle.rowfile.proofs.Swapped.{ends, further-kept, further-rest, first-size, second-size, swapped-sets}
 use Rattle.rowfile.proofs.swap.Statement.{statement}
 use Rattle.rowfile.proofs.swap.Tie as tie

@@ -1,0 +1,18 @@
+-- `indexes::lines` ends: each line leaves less of the input.
+use Prim.Native.Nat.{_+_, _-_, _≤_}
+use lib.ListN.{length}
+use borrow.Author.Needs.{needs}
+use Rattle.indexes.proofs.lines.Statement.{statement}
+use Rattle.indexes.proofs.lines.Tie as tie
+
+abbrev Inv-loop : tie.InvT-loop
+Inv-loop input at₀ at = at ≤ length input + 1
+
+abbrev μ-loop : tie.MeasureT-loop
+μ-loop input at₀ at = length input + 1 - at
+
+pub lines-spec : {M : Type 1} → statement M
+lines-spec =
+    tie.close
+    (tie.spec Inv-loop μ-loop (λ c. search needs) (λ c κs. search needs) (λ c. search needs) (λ c. search needs) (λ c. search needs)
+    (λ c κs. search needs) (λ c. search needs) (λ c. search needs) (λ c. search needs) (λ c. search needs))
