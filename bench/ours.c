@@ -9,8 +9,8 @@
 #include <string.h>
 #include <time.h>
 
-static uint8_t *text, *records, *mixed, *out;
-static size_t text_len, records_len, out_len;
+static uint8_t *text, *records, *mixed, *out, *entries;
+static size_t text_len, records_len, out_len, entries_len;
 
 static double now(void) {
     struct timespec t;
@@ -38,6 +38,23 @@ static uint64_t shuffled(void) {
 
 static uint64_t again(void) {
     return lef_write(text, text_len, records, records_len, out, out_len, &place, &line);
+}
+
+static uint64_t index_of(void) {
+    return lef_index(text, text_len, records, records_len, entries, entries_len, &place, &line);
+}
+
+static uint64_t index_checked(void) {
+    return lef_index_check(text, text_len, records, records_len, entries, entries_len, &place, &line);
+}
+
+/* The entry in the middle of the index, by its owner and name. */
+static uint64_t found(void) {
+    const uint8_t *e = entries + entries_len / LEF_ENTRY_SIZE / 2 * LEF_ENTRY_SIZE;
+    uint64_t at, number;
+    number = lef_find(text, text_len, records, records_len, entries, entries_len, lef_number(e, 4), text + lef_number(e + 4, 4), lef_number(e + 8, 4), &at,
+                      &place, &line);
+    return number == LEF_DONE && at != lef_number(e + 12, 4) ? LEF_LACKING : number;
 }
 
 /* All tokens, by calls on windows of the text: every call looks its window over first, so a small one is lent, and a larger one where
@@ -103,12 +120,20 @@ int main(int argc, char **argv) {
     out_len = place;
     out = malloc(out_len);
     memset(out, 0, out_len);
-    printf("bytes %zu\nrecords %zu\nwritten %zu\n", text_len, n, out_len);
+    if (lef_index(text, text_len, records, records_len, records, 0, &place, &line) != LEF_RECORD_ROOM)
+        return 1;
+    entries_len = place * LEF_ENTRY_SIZE;
+    entries = malloc(entries_len);
+    index_of();
+    printf("bytes %zu\nrecords %zu\nwritten %zu\nentries %" PRIu64 "\n", text_len, n, out_len, place);
     job("tokens", tokens, times);
     job("count", count, times);
     job("read", fill, times);
     job("check", in_order, times);
     job("shuffled", shuffled, times);
     job("write", again, times);
+    job("index", index_of, times);
+    job("index-check", index_checked, times);
+    job("find", found, times);
     return 0;
 }

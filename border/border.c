@@ -1,6 +1,6 @@
 /* The library from C, by its header alone: the worked examples of the rules, every refusal, buffers that are short by one, exact and
  * larger, and two programs that disagree on the size of an enum and agree on a record file. */
-#include "lef.h"
+#include "border.h"
 #include "placement.h"
 
 #include <inttypes.h>
@@ -10,7 +10,7 @@
 
 static int tried, wrong;
 
-static void expect(const char *what, uint64_t is, uint64_t should) {
+void expect(const char *what, uint64_t is, uint64_t should) {
     tried++;
     if (is != should) {
         wrong++;
@@ -18,7 +18,7 @@ static void expect(const char *what, uint64_t is, uint64_t should) {
     }
 }
 
-static const uint8_t *bytes(const char *s) {
+const uint8_t *bytes(const char *s) {
     return (const uint8_t *)s;
 }
 
@@ -276,6 +276,10 @@ static void fields(void) {
     expect("y", lef_record_y(record) == INT64_MIN, 1);
     expect("the greatest", lef_signed(INT64_MAX) == INT64_MAX, 1);
     expect("no bytes", lef_number(NULL, 0), 0);
+    expect("an entry's owner", lef_entry_owner(record + 3), 0x34567800);
+    expect("its name's start", lef_entry_name_start(record + 3), 0xffffff12);
+    expect("its name's length", lef_entry_name_length(record + 3), 0x030201ff);
+    expect("its at", lef_entry_at(record + 3), 0x00002184);
 }
 
 /* The version as a text and as a number. */
@@ -311,6 +315,8 @@ int main(void) {
     nulls();
     fields();
     version();
+    finding();
+    sorting();
     accident();
     printf("border: %d tried, %d wrong\n", tried, wrong);
     return wrong != 0;

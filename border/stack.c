@@ -12,8 +12,8 @@
 #define STACK (4u << 20)
 #define MARK 0x5au
 
-static uint8_t *text, *records, *mixed, *out;
-static size_t text_len, records_len, out_len;
+static uint8_t *text, *records, *mixed, *out, *entries;
+static size_t text_len, records_len, out_len, entries_len;
 static uint64_t place, line, other[3];
 
 static void nothing(void) {
@@ -61,6 +61,24 @@ static void do_name(void) {
     uint64_t i;
     for (i = 0; i < records_len / LEF_RECORD_SIZE; i++)
         lef_name(text, text_len, records, records_len, i, other, other + 1);
+}
+
+static void do_index(void) {
+    lef_index(text, text_len, mixed, records_len, entries, entries_len, &place, &line);
+}
+
+/* An index that is accepted, and one whose last entry differs. */
+static void do_index_check(void) {
+    lef_index_check(text, text_len, mixed, records_len, entries, entries_len, &place, &line);
+    entries[entries_len - 1] ^= 1;
+    lef_index_check(text, text_len, mixed, records_len, entries, entries_len, &place, &line);
+    entries[entries_len - 1] ^= 1;
+}
+
+static void do_find(void) {
+    const uint8_t *last = entries + entries_len - LEF_ENTRY_SIZE;
+    lef_find(text, text_len, mixed, records_len, entries, entries_len, lef_entry_owner(last), text + lef_entry_name_start(last), lef_entry_name_length(last),
+             other, &place, &line);
 }
 
 static void *started(void *run) {
@@ -117,6 +135,10 @@ int main(int argc, char **argv) {
         return 2;
     out_len = place;
     out = malloc(out_len);
+    if (lef_index(text, text_len, mixed, records_len, NULL, 0, &place, &line) != LEF_RECORD_ROOM)
+        return 2;
+    entries_len = place * LEF_ENTRY_SIZE;
+    entries = malloc(entries_len);
     at_most("lef_read", do_read, LEF_READ_STACK);
     at_most("lef_check", do_check, LEF_CHECK_STACK);
     at_most("lef_write", do_write, LEF_WRITE_STACK);
@@ -124,6 +146,9 @@ int main(int argc, char **argv) {
     at_most("lef_in_force", do_in_force, LEF_IN_FORCE_STACK);
     at_most("lef_owners", do_owners, LEF_OWNERS_STACK);
     at_most("lef_name", do_name, LEF_NAME_STACK);
+    at_most("lef_index", do_index, LEF_INDEX_STACK);
+    at_most("lef_index_check", do_index_check, LEF_INDEX_CHECK_STACK);
+    at_most("lef_find", do_find, LEF_FIND_STACK);
     printf("stack: %d tried, %d wrong\n", tried, wrong);
     return wrong != 0;
 }

@@ -63,6 +63,9 @@ struct token {
  * refused 1 or 2. */
 uint64_t next_token(struct bytes text, struct token *t);
 
+/* A byte with a small letter made a capital. */
+uint8_t raised(uint8_t byte);
+
 /* Whether the token is a name that spells the word, which is in upper case. */
 int spells(struct bytes text, struct token t, const char *word);
 
@@ -97,6 +100,9 @@ int refused(struct refusal r, struct asked a);
 
 /* Whether listings and refusals are objects of JSON, one a line. */
 extern int in_json;
+
+/* The record with that `at` among the records of a reading, or NULL. */
+const uint8_t *record_at(struct bytes records, uint64_t at);
 
 /* ---- unread.c */
 
@@ -157,6 +163,15 @@ int printed(void);
 
 int list_records(struct bytes text, struct bytes records, enum listing form);
 int list_tokens(struct asked a);
+
+/* ---- found.c: sites, macros and pins by their names. */
+
+/* The index of a record file. */
+struct refusal index_records(struct bytes text, struct bytes records, struct bytes *index);
+
+/* Prints where the macros and sites of a name are, or the pins of a name in the macros of the other, if that is not NULL: DONE, or REFUSED after
+ * it said that there is none. What is asked has a text and its reading, of which the index is. */
+int find(struct asked a, struct bytes index, const char *word, const char *pin);
 
 /* ---- svg.c */
 

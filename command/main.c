@@ -106,6 +106,32 @@ static int do_tokens(char **names) {
     return status == DONE ? list_tokens(asked) : status;
 }
 
+static int do_index(char **names) {
+    struct refusal r;
+    struct bytes index;
+    int status = load_both(names);
+    if (status != DONE)
+        return status;
+    r = index_records(asked.text, asked.file, &index);
+    if (r.number != LEF_DONE)
+        return refused(r, asked);
+    status = store(names[2], index);
+    free(index.at);
+    return status;
+}
+
+static int do_find(char **names) {
+    struct refusal r;
+    struct bytes index;
+    int status = read_text(names[0]);
+    if (status != DONE)
+        return status;
+    r = index_records(asked.text, asked.file, &index);
+    status = r.number == LEF_DONE ? find(asked, index, names[1], names[2]) : refused(r, asked);
+    free(index.at);
+    return status;
+}
+
 static int do_svg(char **names) {
     struct sheet s = {{NULL, 0}, 0};
     int status = read_text(names[0]);
@@ -122,7 +148,7 @@ static int do_svg(char **names) {
 
 /* ---- usage */
 
-/* A verb, and what it takes: files that are read (<), files that are written (>), and other words (.). */
+/* A verb, and what it takes: files that are read (<), files that are written (>), other words (.), and last one that may be left out (?). */
 static const struct verb {
     const char *name, *takes, *words[3], *help;
     int (*run)(char **names);
@@ -133,6 +159,8 @@ static const struct verb {
     {"format", "<>", {"IN.lef", "OUT.lef"}, "read, check and write in one", do_format},
     {"list", "<", {"IN.lef"}, "the records of a text, one a line", do_list},
     {"tokens", "<", {"IN.lef"}, "its tokens, one a line", do_tokens},
+    {"index", "<<>", {"IN.lef", "FILE.rec", "OUT.idx"}, "the index of a file, by which names are found", do_index},
+    {"find", "<.?", {"IN.lef", "MACRO", "PIN"}, "where a macro, site or pin is", do_find},
     {"svg", "<.>", {"IN.lef", "MACRO", "OUT.svg"}, "a picture of a macro", do_svg},
 };
 
@@ -143,7 +171,7 @@ static int put_synopsis(struct verb v, FILE *f) {
     int n = fprintf(f, "lef %s", v.name);
     size_t i;
     for (i = 0; v.takes[i] != 0; i++)
-        n += fprintf(f, " %s", v.words[i]);
+        n += fprintf(f, v.takes[i] == '?' ? " [%s]" : " %s", v.words[i]);
     return n;
 }
 
@@ -157,11 +185,11 @@ static int help(void) {
            "       lef --version\n"
            "\n"
            "list prints kind, code, at, owner (- for the library), name start, name length, x, y; with --words what they mean, lengths in\n"
-           "microns. tokens prints kind, start, stop, and the token itself.\n"
-           "--json prints the records, the tokens and refusals as objects of JSON, one a line.\n"
+           "microns. tokens prints kind, start, stop, and the token itself. find prints all of that name, one a line.\n"
+           "--json prints the records, the tokens, what is found and refusals as objects of JSON, one a line.\n"
            "A file given as - is standard input or standard output; -- ends the options. A file is written only when it is whole, and never\n"
            "over an input; what is no regular file is written through.\n"
-           "Exit status: 0 done, 1 refused (the refusal is said on standard error), 2 wrong usage or a system error.\n");
+           "Exit status: 0 done, 1 refused or not found (which is said on standard error), 2 wrong usage or a system error.\n");
     return printed();
 }
 
@@ -192,7 +220,7 @@ static int run(const struct verb *v, char **names) {
             if (v->takes[k] == '<' && v->takes[i] == '>' && is_same_file(names[k], names[i]))
                 return misused(v, names[i], "is the same file as an input; nothing was read or written");
         }
-    if ((v->run == do_list || v->run == do_tokens) && is_same_file(names[0], "-"))
+    if ((v->run == do_list || v->run == do_tokens || v->run == do_find) && is_same_file(names[0], "-"))
         return misused(v, names[0], "is the same file as standard output; nothing was read or written");
     return v->run(names);
 }
@@ -224,8 +252,8 @@ static const struct verb *verb_of(const char *word) {
 
 int main(int argc, char **argv) {
     const struct verb *v;
-    char *words[5];
-    int n, takes;
+    char *words[6] = {NULL};
+    int n, least, takes;
     if (argc == 2 && (strcmp(argv[1], "--help") == 0 || strcmp(argv[1], "-h") == 0))
         return help();
     if (argc == 2 && strcmp(argv[1], "--version") == 0) {
@@ -241,9 +269,10 @@ int main(int argc, char **argv) {
     if (v == NULL)
         return misused(NULL, words[0], "is no verb");
     takes = (int)strlen(v->takes);
+    least = (int)strcspn(v->takes, "?");
     if (form == WORDS && v->run != do_list)
         return misused(v, "--words", "is an option of list alone");
-    if (n - 1 < takes)
+    if (n - 1 < least)
         return misused(v, v->words[n - 1], "is missing");
-    return n - 1 == takes ? run(v, words + 1) : misused(v, words[takes + 1], "is one too many");
+    return n - 1 <= takes ? run(v, words + 1) : misused(v, words[takes + 1], "is one too many");
 }

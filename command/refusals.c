@@ -11,8 +11,8 @@ static const char *why(uint64_t number, int is_unread) {
     static const char *const WHY[] = {
         "done", "text over 16,777,216 bytes", "a byte above 127", "byte starts no token", "wrong kind of token, or end",
         "word not a key here", "value not allowed", "another word required", "known, not supported", "numeral", "SITE lacks CLASS or SIZE",
-        "record buffer too small", "text buffer too small", "record bytes not a multiple of 36", "record foreign, or equal to an earlier one",
-        "record lacking",
+        "record or index buffer too small", "text buffer too small", "record bytes not a multiple of 36, or index bytes not of 16",
+        "record foreign, or equal to an earlier one", "record lacking", "index differs from the one that would be built",
     };
     return is_unread ? "LEF that this library does not read" : number < sizeof WHY / sizeof *WHY ? WHY[number] : "?";
 }
@@ -166,8 +166,7 @@ static void add_record(struct sheet *s, const char *what, struct bytes text, con
     add(s, "\n");
 }
 
-/* The record with that `at` among the records of a reading, or NULL. */
-static const uint8_t *record_at(struct bytes records, uint64_t at) {
+const uint8_t *record_at(struct bytes records, uint64_t at) {
     size_t low = 0, high = records.len / LEF_RECORD_SIZE;
     while (low < high) {
         size_t middle = low + (high - low) / 2;

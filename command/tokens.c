@@ -23,15 +23,17 @@ uint64_t next_token(struct bytes text, struct token *t) {
     return number;
 }
 
+uint8_t raised(uint8_t byte) {
+    return 'a' <= byte && byte <= 'z' ? (uint8_t)(byte - 32) : byte;
+}
+
 int spells(struct bytes text, struct token t, const char *word) {
     size_t i, n = strlen(word);
     if (t.kind != LEF_TOKEN_NAME || t.stop - t.start != n)
         return 0;
-    for (i = 0; i < n; i++) {
-        uint8_t b = text.at[t.start + i];
-        if (('a' <= b && b <= 'z' ? b - 32 : b) != word[i])
+    for (i = 0; i < n; i++)
+        if (raised(text.at[t.start + i]) != word[i])
             return 0;
-    }
     return 1;
 }
 

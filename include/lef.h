@@ -1,4 +1,4 @@
-/* LEF text as a record file: reading, checking, writing and looking up.
+/* LEF text as a record file: reading, checking, writing, looking up and finding by name.
  *
  * Every call returns the number of a refusal, or LEF_DONE, and leaves its other results behind the pointers given. A call that is
  * refused has changed no buffer. The numbers, places and lines are those of the table "The refusals" below.
@@ -21,8 +21,8 @@ extern "C" {
 
 /* The version of this header and of the library, which `lef --version` and lef.pc say as well, and the same as one number: 10000 for
  * the first part, 100 for the second. LEF_VERSION, below, is a kind of record and says nothing of the library. */
-#define LEF_H_VERSION "1.0.0"
-#define LEF_H_NUMBER 10000
+#define LEF_H_VERSION "1.1.0"
+#define LEF_H_NUMBER 10100
 
 /* The longest text that is read, in bytes. */
 #define LEF_TEXT_LIMIT 16777216u
@@ -48,6 +48,22 @@ extern "C" {
 
 /* The owner of a record that no other encloses. */
 #define LEF_LIBRARY 4294967295u
+
+/* An entry of an index: 16 bytes, little-endian, one after the other with no header. There is one for each record of kind LEF_SITE,
+ * LEF_MACRO and LEF_PIN, and none for a macro's SITE statement. Where each field starts; the functions lef_entry_.. read them. Each is
+ * that of the record.
+ *
+ * Entries stand by rising owner, those of the library last; of one owner by their names' bytes, in exact case, a name before those that
+ * it begins; and of one name by rising `at`. */
+#define LEF_ENTRY_SIZE 16u
+#define LEF_ENTRY_OWNER 0u /* 32 bits, as all four */
+#define LEF_ENTRY_NAME 4u  /* where the name starts in the text */
+#define LEF_ENTRY_LEN 8u   /* how many bytes it has */
+#define LEF_ENTRY_AT 12u
+
+/* What lef_find leaves as `at` where there is nothing of that name. It is LEF_LIBRARY as well, so ask whether something was found before you
+ * hand an `at` on as the owner of what you look for next. */
+#define LEF_NOWHERE 4294967295u
 
 /* The number of n bytes, the lowest first. */
 static inline uint64_t lef_number(const uint8_t *bytes, unsigned n) {
@@ -86,6 +102,20 @@ static inline int64_t lef_record_x(const uint8_t *record) {
 }
 static inline int64_t lef_record_y(const uint8_t *record) {
     return lef_signed(lef_number(record + LEF_Y, 8));
+}
+
+/* The fields of the entry that starts at a byte, wherever that lies. */
+static inline uint32_t lef_entry_owner(const uint8_t *entry) {
+    return (uint32_t)lef_number(entry + LEF_ENTRY_OWNER, 4);
+}
+static inline uint32_t lef_entry_name_start(const uint8_t *entry) {
+    return (uint32_t)lef_number(entry + LEF_ENTRY_NAME, 4);
+}
+static inline uint32_t lef_entry_name_length(const uint8_t *entry) {
+    return (uint32_t)lef_number(entry + LEF_ENTRY_LEN, 4);
+}
+static inline uint32_t lef_entry_at(const uint8_t *entry) {
+    return (uint32_t)lef_number(entry + LEF_ENTRY_AT, 4);
 }
 
 /* The kinds of records, with the fields that they use beside `at` and owner. */
@@ -132,8 +162,9 @@ static inline int64_t lef_record_y(const uint8_t *record) {
 #define LEF_TOKEN_STRING 4u
 
 /* The refusals, with the place that each gives. The line, from 3 to 10, is that of the place, counted from 1, newlines between quotes
- * not counted; else it is 0. The first in this order is given: 1, 2, the first of 3 to 10, then 13, 14, 15, then 11 or 12. */
-#define LEF_DONE                  0u   /* the count of records or of bytes written; 0 from lef_check */
+ * not counted; else it is 0. The first in this order is given: 1, 2, the first of 3 to 10, then 13 for the records, 13 for the index, 14, 15,
+ * 16, then 11 or 12. */
+#define LEF_DONE                  0u   /* the count of records, bytes or entries written; 0 where nothing is written */
 #define LEF_TOO_LONG              1u   /* 0 */
 #define LEF_NOT_ASCII             2u   /* the first byte above 127 */
 #define LEF_NO_TOKEN              3u   /* the byte that starts no token */
@@ -144,11 +175,13 @@ static inline int64_t lef_record_y(const uint8_t *record) {
 #define LEF_NOT_SUPPORTED         8u
 #define LEF_NOT_A_NUMERAL         9u
 #define LEF_SITE_LACKS            10u
-#define LEF_RECORD_ROOM           11u  /* the records needed */
+#define LEF_RECORD_ROOM           11u  /* the records needed, or the entries */
 #define LEF_TEXT_ROOM             12u  /* the bytes needed */
-#define LEF_NOT_WHOLE             13u  /* the length of the record bytes */
+#define LEF_NOT_WHOLE             13u  /* the length of the record bytes, or of the index bytes */
 #define LEF_WRONG_RECORD          14u  /* the index of the record that is foreign, or equal to an earlier one */
 #define LEF_LACKING               15u  /* the `at` of the record that is lacking */
+#define LEF_INDEX_DIFFERS         16u  /* the first position at which the index differs from the one that would be built; where one of
+                                          the two begins the other, the count of entries of the shorter */
 
 /* How many bytes of stack each call takes at most, on x86-64. */
 #define LEF_READ_STACK 8192u
@@ -158,6 +191,9 @@ static inline int64_t lef_record_y(const uint8_t *record) {
 #define LEF_IN_FORCE_STACK 1024u
 #define LEF_OWNERS_STACK 1024u
 #define LEF_NAME_STACK 1024u
+#define LEF_INDEX_STACK 655360u
+#define LEF_INDEX_CHECK_STACK 655360u
+#define LEF_FIND_STACK 655360u
 
 /* Reads the text: its records, by rising `at`, from the front of the buffer; the rest of the buffer keeps its bytes. *place is the
  * count of records. 11 says how many there are where the buffer has no room for all of them: a buffer of length 0 counts them.
@@ -197,6 +233,27 @@ uint64_t lef_owners(const uint8_t *records, size_t records_len, uint64_t index, 
 /* The name of the record at the index, as a part of the text: *len is 0 where it has none, for an index past the file, and where its
  * span reaches outside the text. Never refused. Takes the same time whatever it is lent. */
 uint64_t lef_name(const uint8_t *text, size_t text_len, const uint8_t *records, size_t records_len, uint64_t index, uint64_t *start, uint64_t *len);
+
+/* Builds the index of the records of a file that lef_check accepts, from the front of the buffer; the rest of the buffer keeps its bytes. It
+ * is the same in whatever order the file has them. *place is the count of entries. 11 says how many there are where the buffer has no room for
+ * all of them: a buffer of length 0 counts them.
+ * Checks the records, and then passes over the file twice and sorts: n entries take some n log n steps, each of which compares two names. */
+uint64_t lef_index(const uint8_t *text, size_t text_len, const uint8_t *records, size_t records_len, uint8_t *index, size_t index_len, uint64_t *place,
+                   uint64_t *line);
+
+/* Accepts an index exactly where it is the one that lef_index builds, byte by byte; else 16 says where they part.
+ * Checks the records, passes over the index once, and looks up each entry of the records in it, which takes some n log n steps as well. Where
+ * they part it passes over the file log n times more. */
+uint64_t lef_index_check(const uint8_t *text, size_t text_len, const uint8_t *records, size_t records_len, const uint8_t *index, size_t index_len,
+                         uint64_t *place, uint64_t *line);
+
+/* The `at` of the SITE block, MACRO or PIN that has the owner and the name; of several the least. LEF_LIBRARY as the owner asks for sites and
+ * macros, a macro's `at` for its pins. The name is any bytes, in exact case, and need not lie in the text; one of length 0 is the empty name.
+ * LEF_NOWHERE where there is none, which is no refusal, for an owner above LEF_LIBRARY, and on a refusal.
+ * Checks records and index as lef_index_check does, and then bisects: to find many in an index that was accepted, bisect it yourself by the order
+ * above. */
+uint64_t lef_find(const uint8_t *text, size_t text_len, const uint8_t *records, size_t records_len, const uint8_t *index, size_t index_len, uint64_t owner,
+                  const uint8_t *name, size_t name_len, uint64_t *at, uint64_t *place, uint64_t *line);
 
 #ifdef __cplusplus
 }
