@@ -20,7 +20,7 @@ mod window;
 mod windows;
 
 // What comparing a file with a text shows: the answer of a check, and whether the file has the records of the reading in its order.
-#[derive(Drop)]
+#[derive(Clone, Copy)]
 pub struct Compared {
     pub answer: Refusal,
     pub same: bool,

@@ -10,7 +10,7 @@ use reader::pass::{Passed, pass};
 use record::Record;
 use refusal::Refusal;
 
-#[derive(Drop)]
+#[derive(Clone, Copy)]
 pub enum Ordered {
     Same,
     Other,
@@ -18,7 +18,7 @@ pub enum Ordered {
 }
 
 // How many records of the file were found to be the reading's, in its order, and whether no other has been seen.
-#[derive(Drop)]
+#[derive(Clone, Copy)]
 pub struct Run {
     pub done: usize,
     pub agrees: bool,

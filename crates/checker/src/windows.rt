@@ -19,7 +19,7 @@ use refusal::Refusal;
 
 // The records of the reading below `low` have been in a window. `limit` is the index of the first record of the file that is known to be
 // wrong, or the file's count; `full` says whether it had all those of the windows, and if not, `lack` is the `at` of the first it had not.
-#[derive(Drop)]
+#[derive(Clone, Copy)]
 pub struct Seen {
     pub low: usize,
     pub limit: usize,

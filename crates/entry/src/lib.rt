@@ -5,7 +5,7 @@ ghost use Rattle.entry.specs.Entries.{encoded, entry_in, has_room, stored};
 pub mod order;
 
 // The owner, the span of the name and the `at` of a SITE block, MACRO or PIN.
-#[derive(Drop)]
+#[derive(Clone, Copy)]
 pub struct Entry {
     pub owner: usize,
     pub name: usize,

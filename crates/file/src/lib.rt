@@ -6,7 +6,7 @@ ghost use Rattle.file.specs.File.{has_room, record_at, stored};
 use record::Record;
 
 // What stands at an index of a record file.
-#[derive(Drop)]
+#[derive(Clone, Copy)]
 pub enum Found {
     At(Record),
     Past,

@@ -3,7 +3,7 @@
 use refusal::Refusal;
 
 // Where a SITE block, MACRO or PIN of an owner and a name is.
-#[derive(Drop)]
+#[derive(Clone, Copy)]
 pub enum Sought {
     At(usize),
     Nowhere,
@@ -11,7 +11,7 @@ pub enum Sought {
 }
 
 // A look-up among many: an owner, and a name as a span of a lent block of names.
-#[derive(Drop)]
+#[derive(Clone, Copy)]
 pub struct Query {
     pub owner: usize,
     pub start: usize,

@@ -20,7 +20,7 @@ use record::Record;
 const LARGEST: usize = 18446744073709551615;
 
 // The least position before which no entry of the records is lacking, and whether none is lacking at all.
-#[derive(Drop)]
+#[derive(Clone, Copy)]
 pub struct Met {
     pub first: usize,
     pub all: bool,

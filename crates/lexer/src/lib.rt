@@ -16,7 +16,7 @@ use scan::{Class, Run};
 
 // A token: its kind, the places of its first byte and of the byte after its last, and the line of its first byte. The kind has a
 // whole word, since what pads a byte is copied in pieces wherever the token goes.
-#[derive(Drop)]
+#[derive(Clone, Copy)]
 pub struct Token {
     pub kind: usize,
     pub start: usize,
@@ -35,7 +35,7 @@ impl Token {
 }
 
 // What the lexer finds next: a token, the end of the text with its line, or the place and line of a byte that starts no token.
-#[derive(Drop)]
+#[derive(Clone, Copy)]
 pub enum Lexed {
     Found(Token),
     End(usize),
@@ -43,14 +43,14 @@ pub enum Lexed {
 }
 
 // What the screen says of a text: the other calls may read it, or the refusal that they all give.
-#[derive(Drop)]
+#[derive(Clone, Copy)]
 pub enum Screened {
     Clear,
     Refused(Refusal),
 }
 
 // What a caller is told of the first token from a place on.
-#[derive(Drop)]
+#[derive(Clone, Copy)]
 pub enum Answer {
     Found(Token),
     End,

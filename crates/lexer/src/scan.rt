@@ -4,7 +4,7 @@ ghost use Rattle.lexer.specs.Bytes.{is_letter, is_space, is_digit, is_ascii, in_
 ghost use Rattle.lexer.specs.Run.{past};
 
 // What a byte starts.
-#[derive(Drop)]
+#[derive(Clone, Copy)]
 pub enum Class {
     Letter,
     Space,
@@ -17,7 +17,7 @@ pub enum Class {
 }
 
 // What a run goes over.
-#[derive(Drop)]
+#[derive(Clone, Copy)]
 pub enum Run {
     Name,
     Digits,

@@ -10,7 +10,7 @@ use record::kind;
 use rows::{Row, act, form, item};
 use word::codes::first_word;
 
-#[derive(Drop)]
+#[derive(Clone, Copy)]
 pub enum Formed {
     // The number of the word, 0 where there is none, and the row.
     In(u8, Row),

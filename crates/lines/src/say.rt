@@ -20,7 +20,7 @@ use word::codes::{first_word, second_word};
 use word::names;
 
 // The number of a word; a part of the text, in quotes or not; a `;`.
-#[derive(Drop)]
+#[derive(Clone, Copy)]
 enum Token {
     Word(u8),
     Semicolon,

@@ -13,7 +13,7 @@ use record::{Record, code, kind};
 use refusal::Refusal;
 
 // The record in force, by its index.
-#[derive(Drop)]
+#[derive(Clone, Copy)]
 pub enum InForce {
     At(usize),
     None,
@@ -21,7 +21,7 @@ pub enum InForce {
 }
 
 // How many owners a record has.
-#[derive(Drop)]
+#[derive(Clone, Copy)]
 pub enum Chain {
     Count(usize),
     Refused(Refusal),

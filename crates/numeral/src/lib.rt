@@ -12,14 +12,14 @@ use laid::{fraction_width, lay, natural_width, sign_width};
 mod laid;
 
 // What a numeral says: whether it is below nought, and its magnitude in millionths; or that it is no numeral.
-#[derive(Drop)]
+#[derive(Clone, Copy)]
 pub enum Value {
     Scaled(bool, u64),
     Not,
 }
 
 // The place after what was written; or that the buffer has no room for it.
-#[derive(Drop)]
+#[derive(Clone, Copy)]
 pub enum Written {
     Upto(usize),
     NoRoom,

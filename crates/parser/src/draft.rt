@@ -17,7 +17,7 @@ use rows::item;
 
 // What the items have set so far: where the name stands, the numbers, the code, and the first word of a value. Of these
 // the code and the first word are bytes and have 64 bits each, since a byte just stored is slow to copy as a part of something wider.
-#[derive(Drop)]
+#[derive(Clone, Copy)]
 pub struct Sketch {
     pub name: usize,
     pub len: usize,
@@ -28,7 +28,7 @@ pub struct Sketch {
 }
 
 // The sketch, and the token then held.
-#[derive(Drop)]
+#[derive(Clone, Copy)]
 pub enum Drafted {
     Next(Sketch, Token),
     Refused(Refusal),

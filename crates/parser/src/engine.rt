@@ -18,7 +18,7 @@ use record::Record;
 use refusal::Refusal;
 use rows::{Row, act, block};
 
-#[derive(Drop)]
+#[derive(Clone, Copy)]
 pub enum Step {
     // A record, what it does to the open blocks, and the token then held.
     Gives(Token, Record, u64),

@@ -10,7 +10,7 @@ use lexer::Token;
 use refusal::Refusal;
 
 // The number of the key word.
-#[derive(Drop)]
+#[derive(Clone, Copy)]
 pub enum Peeked {
     Is(u8),
     Refused(Refusal),

@@ -19,7 +19,7 @@ use lexer::Token;
 use refusal::Refusal;
 use rows::{Row, act, form};
 
-#[derive(Drop)]
+#[derive(Clone, Copy)]
 pub enum Chosen {
     // The row's items follow, from the token on.
     Runs(Row, Token),

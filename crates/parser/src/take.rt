@@ -16,21 +16,21 @@ use numeral::Value;
 use refusal::Refusal;
 
 // The token held after one was taken, or the refusal.
-#[derive(Drop)]
+#[derive(Clone, Copy)]
 pub enum Taken {
     Next(Token),
     Refused(Refusal),
 }
 
 // A number as a record stores it, and the token then held.
-#[derive(Drop)]
+#[derive(Clone, Copy)]
 pub enum Number {
     Value(u64, Token),
     Refused(Refusal),
 }
 
 // The number of a word or the code of a value, and the token then held.
-#[derive(Drop)]
+#[derive(Clone, Copy)]
 pub enum Word {
     Is(u8, Token),
     Refused(Refusal),

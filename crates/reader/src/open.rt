@@ -12,7 +12,7 @@ use record::Record;
 use rows::{act, block};
 
 // The version in force, in millionths; the innermost block; and how many are around it.
-#[derive(Drop)]
+#[derive(Clone, Copy)]
 pub struct Open {
     pub version: u64,
     pub depth: usize,
@@ -20,7 +20,7 @@ pub struct Open {
 }
 
 // The blocks around the innermost as one value, the library first, since an enum holds no array. What stands past the depth means nothing.
-#[derive(Drop)]
+#[derive(Clone, Copy)]
 pub struct Around {
     pub first: Frame,
     pub second: Frame,
@@ -30,7 +30,7 @@ pub struct Around {
 }
 
 // The state between two turns: the token held and the open blocks.
-#[derive(Drop)]
+#[derive(Clone, Copy)]
 pub struct State {
     pub held: Token,
     pub open: Open,

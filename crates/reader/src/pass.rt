@@ -9,14 +9,14 @@ use parser::take;
 use parser::take::Taken;
 use refusal::Refusal;
 
-#[derive(Drop)]
+#[derive(Clone, Copy)]
 pub enum Begun {
     // The state before the first turn.
     At(State),
     Refused(Refusal),
 }
 
-#[derive(Drop)]
+#[derive(Clone, Copy)]
 pub enum Passed {
     // The reading is over, with so many records.
     Over(usize),

@@ -4,7 +4,7 @@ ghost use Rattle.std.specs.Prelude.{◌≡◌};
 ghost use Rattle.refusal.specs.Table.{refused, done, too_long, not_ascii, no_token, wrong_kind, not_key, not_allowed, another_word, not_supported, not_numeral, site_lacks, record_room, text_room, not_whole, wrong_record, lacking, index_differs};
 
 // The number has a whole word, so that a token and a refusal lie alike in an answer that is the one or the other.
-#[derive(Drop)]
+#[derive(Clone, Copy)]
 pub struct Refusal {
     pub number: usize,
     pub place: usize,

@@ -13,7 +13,7 @@ pub mod item;
 mod outer;
 
 // A row: its items, the first in the lowest byte; and what it does, in the lowest byte of its head, with what a record opens above it.
-#[derive(Drop)]
+#[derive(Clone, Copy)]
 pub struct Row {
     pub head: u64,
     pub items: u64,

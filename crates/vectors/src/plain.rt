@@ -22,7 +22,7 @@ pub fn bytes(written: &[u8], out: &mut [u8]) -> usize
 }
 
 // A byte, and the place after its writing.
-#[derive(Drop)]
+#[derive(Clone, Copy)]
 struct Byte {
     value: u8,
     next: usize,

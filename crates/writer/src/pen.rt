@@ -22,14 +22,14 @@ use reader::pass::{Passed, pass};
 use record::Record;
 use rows::form;
 
-#[derive(Drop)]
+#[derive(Clone, Copy)]
 pub struct Pen {
     pub open: Open,
     pub at: usize,
 }
 
 // The pen where the innermost block takes a record, and the form that the record has there.
-#[derive(Drop)]
+#[derive(Clone, Copy)]
 pub struct Taken {
     pub open: Open,
     pub at: usize,

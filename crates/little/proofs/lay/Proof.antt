@@ -11,11 +11,11 @@ use Rattle.little.proofs.Steps.{next}
 use Rattle.little.proofs.lay.Statement.{statement}
 use Rattle.little.proofs.lay.Tie as tie
 
-abbrev invariant_loop : tie.invariant-loop
+abbrev invariant_loop : tie.invariant_loop
 invariant_loop bytes₀ place n v i₀ rest₀ bytes i rest =
     (i ≤ n) × (length bytes ≡ length bytes₀) × (sets bytes (place + i) (little (n - i) rest) ≡ sets bytes₀ place (little n v))
 
-abbrev decreases_loop : tie.decreases-loop
+abbrev decreases_loop : tie.decreases_loop
 decreases_loop bytes₀ place n v i₀ rest₀ bytes i rest = n - i
 
 loop_holds : tie.Need-loop-init invariant_loop decreases_loop
@@ -27,7 +27,7 @@ cast_set c = search rules
 set_requires : tie.Need-set-requires invariant_loop decreases_loop
 set_requires c κs = search rules
 
-add_i : tie.Need-overflow-add-i invariant_loop decreases_loop
+add_i : tie.Need-overflow_add-i invariant_loop decreases_loop
 add_i c = omega arith
 
 loop_less : tie.Need-loop-smaller invariant_loop decreases_loop

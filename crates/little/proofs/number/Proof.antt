@@ -10,11 +10,11 @@ use Rattle.little.proofs.Steps.{earlier, wider, seven}
 use Rattle.little.proofs.number.Statement.{statement}
 use Rattle.little.proofs.number.Tie as tie
 
-abbrev invariant_loop : tie.invariant-loop
+abbrev invariant_loop : tie.invariant_loop
 invariant_loop bytes place n i₀ sum₀ i sum =
     (i ≤ min n 8) × (sum ≡ number (take (min n 8 - i) (drop (place + i) bytes))) × (sum < 256 ^ (min n 8 - i))
 
-abbrev decreases_loop : tie.decreases-loop
+abbrev decreases_loop : tie.decreases_loop
 decreases_loop bytes place n i₀ sum₀ i sum = i
 
 -- before a turn the sum has at most seven bytes
@@ -32,16 +32,16 @@ loop_holds c =
     let e : min c.before.before.args.n 8 - c.up-to-eight.result ≡ 0 = omega arith in
     (omega arith, rw e, rw e (omega arith))
 
-sub_i : tie.Need-overflow-sub-i invariant_loop decreases_loop
+sub_i : tie.Need-overflow_sub-i invariant_loop decreases_loop
 sub_i c = omega arith
 
-mul_sum : tie.Need-overflow-mul-sum invariant_loop decreases_loop
+mul_sum : tie.Need-overflow_mul-sum invariant_loop decreases_loop
 mul_sum c = omega (arith, small c)
 
 byte_requires : tie.Need-byte-requires invariant_loop decreases_loop
 byte_requires c κs = search rules
 
-add_sum : tie.Need-overflow-add-sum invariant_loop decreases_loop
+add_sum : tie.Need-overflow_add-sum invariant_loop decreases_loop
 add_sum c = omega (arith, small c.before)
 
 loop_less : tie.Need-loop-smaller invariant_loop decreases_loop
