@@ -1,4 +1,6 @@
 // Checking a record file against a text: whether it has the records of the reading, each once, in any order.
+#![tactic(auto)]
+
 ghost use Rattle.std.specs.Prelude.{◌≡◌, true, List};
 ghost use Rattle.record.specs.declared.Record.{Record};
 ghost use Rattle.file.specs.File.{held};

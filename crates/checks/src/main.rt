@@ -4,6 +4,8 @@
 //   m NUMBERS        a long text, of n statements `VERSION 5 ;`, and a file of `held` records: number i is the reading's (i * step) % n,
 //                    but that at index `odd` is the reading's `put`, and foreign from n on. Each is three bytes, the lowest first:
 //                    n, held, step, odd, put
+#![tactic(auto)]
+
 ghost use Rattle.std.specs.Prelude.{◌≡◌, ◌<◌, ◌≤◌, length};
 
 use record::Record;

@@ -1,4 +1,6 @@
 // An entry of an index: what it holds, its 16 bytes, the entries of a file by their position, and which of two comes first.
+#![tactic(auto)]
+
 ghost use Rattle.std.specs.Prelude.{◌≡◌, ◌/◌, ◌<◌, length};
 ghost use Rattle.entry.specs.Entries.{encoded, entry_in, has_room, stored};
 

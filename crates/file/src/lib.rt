@@ -1,4 +1,6 @@
 // The record file: a record's 36 bytes, and the records of a file by their index.
+#![tactic(auto)]
+
 ghost use Rattle.std.specs.Prelude.{◌≡◌};
 ghost use Rattle.record.specs.Bytes.{encoded};
 ghost use Rattle.file.specs.File.{has_room, record_at, stored};

@@ -1,4 +1,6 @@
 // The index beside a record file: building it, checking one from outside, and finding a SITE block, MACRO or PIN by its owner and name.
+#![tactic(auto)]
+
 ghost use Rattle.std.specs.Prelude.{◌≡◌, true, ◌<◌};
 ghost use Rattle.grammar.specs.Reading.{reading};
 ghost use Rattle.entry.specs.Entries.{count, whole};

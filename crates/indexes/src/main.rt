@@ -14,6 +14,8 @@
 //                                  Its index is built: a sum of its bytes. The pin that the number `put` names is looked for. Every pin
 //                                  is looked for, in one call: a sum of the answers' bytes. The entry at `odd` is made the one at `put`, and
 //                                  the index is checked. Each is three bytes, the lowest first: n, step, names, odd, put
+#![tactic(auto)]
+
 use entry::Entry;
 use index::Sought;
 use refusal::Refusal;

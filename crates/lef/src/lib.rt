@@ -1,5 +1,7 @@
 // The C border of the library: calls on numbers and byte slices. Each returns the number of a refusal, 0 where there is none, and writes
 // all its other results behind the pointers that it is given.
+#![tactic(auto)]
+
 ghost use Rattle.std.specs.Prelude.{◌≡◌};
 ghost use Rattle.lef.specs.Border.{read_numbers, read_buffer, check_numbers, write_numbers, write_buffer, token_numbers, force_numbers, owners_numbers, name_span, index_numbers, index_buffer, index_check_numbers, find_numbers, find_many_numbers, find_many_buffer};
 

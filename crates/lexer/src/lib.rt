@@ -1,4 +1,6 @@
 // The lexer: the first token of a text from a place on, and the screen that every public call puts a text through first.
+#![tactic(auto)]
+
 ghost use Rattle.std.specs.Prelude.{◌≡◌, ◌<◌, ◌+◌, min, length};
 ghost use Rattle.lexer.specs.Bytes.{in_name, in_number, in_string, in_comment};
 ghost use Rattle.lexer.specs.Run.{past};

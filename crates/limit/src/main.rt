@@ -1,6 +1,8 @@
 // Screens and reads texts at the length limit, which no vector on a line can be: spaces of one byte more than is read and of just
 // as many, then both again with a last byte that is not ASCII. Each answer is printed as refusal, place and line; of the screen a
 // text that may be read has three zeros.
+#![tactic(auto)]
+
 use lexer::Screened;
 use reader::reading;
 

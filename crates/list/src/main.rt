@@ -1,4 +1,6 @@
 // Lists the records of the text on standard input, or its refusal. A text of more than 65,536 bytes is not looked at.
+#![tactic(auto)]
+
 use vectors::say;
 
 const LONGEST: usize = 65536;

@@ -1,5 +1,7 @@
 // How the reading of a text is listed: its records, or its refusal, in decimal. What is written goes to the system, of which no contract can
 // speak: `list` has none, and `answer` says only what it returns.
+#![tactic(auto)]
+
 ghost use Rattle.std.specs.Prelude.{◌≡◌, eqb};
 
 use file::Found;

@@ -1,4 +1,6 @@
 // Numbers as bytes, the lowest byte first: read out of bytes, and laid over bytes.
+#![tactic(auto)]
+
 ghost use Rattle.std.specs.Prelude.{◌≡◌, ◌+◌, ◌≤◌, ◌<◌, ◌^◌, min, length, take, drop, get_or, set};
 ghost use Rattle.std.proofs.lemmas.List.Edits.{sets};
 ghost use Rattle.little.specs.Little.{little, number};

@@ -1,4 +1,6 @@
 // Look-ups on a record file alone: the record in force, a record's name, and how many owners a record has.
+#![tactic(auto)]
+
 ghost use Rattle.std.specs.Prelude.{◌≡◌, ◌+◌, ◌/◌, ◌≤◌, ◌<◌, length, get_or};
 ghost use Rattle.std.proofs.Math.Option;
 ghost use Rattle.record.specs.Bytes.{field};

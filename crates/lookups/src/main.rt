@@ -6,6 +6,8 @@
 //   o FILE                    the owners of all records, and of one past the file: `;`, refusal, place, line and count of each
 //   u COUNT, d COUNT          a chain of so many owners (four bytes), with `at` rising in the file or falling: the owners of its last
 //                             record and of its first
+#![tactic(auto)]
+
 use lookup::{Chain, InForce};
 use record::Record;
 use vectors::{hex, plain, say};

@@ -1,6 +1,8 @@
 // Counts the records of a text many times, as often as the first line of standard input has bytes; the text follows that line. The
 // answer is printed. A record buffer of no bytes has `read` count and write nothing. Where a byte 255 ends the text, a record file
 // follows it, and is checked against the text as often.
+#![tactic(auto)]
+
 ghost use Rattle.std.specs.Prelude.{◌≡◌, length};
 
 use reader::reading;

@@ -1,5 +1,7 @@
 // Numerals: what one says in millionths, the shortest one of a value and where it goes in a buffer, and the word of 64
 // bits that a record stores for a value.
+#![tactic(auto)]
+
 ghost use Rattle.std.specs.Prelude.{◌≤◌, ◌-◌, ◌*◌, ◌^◌, ◌≡◌, true, cond, length, drop};
 ghost use Rattle.numeral.specs.Numeral.{numeral_of, digit};
 ghost use Rattle.numeral.specs.Machine.{most, pushed, ended, zeros_of, decimals_of, whole_of};

@@ -1,5 +1,7 @@
 // What every call says when it cannot use what it was given: a number, a place and a line, as the table
 // "Numbers that come back" of the rules has them.
+#![tactic(auto)]
+
 ghost use Rattle.std.specs.Prelude.{◌≡◌};
 ghost use Rattle.refusal.specs.Table.{refused, done, too_long, not_ascii, no_token, wrong_kind, not_key, not_allowed, another_word, not_supported, not_numeral, site_lacks, record_room, text_room, not_whole, wrong_record, lacking, index_differs};
 

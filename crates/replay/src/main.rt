@@ -8,6 +8,8 @@
 //   l TEXT           the reading of a text: its records with `;` between them, each as the listing has it; or `refusal`, number, place, line
 //   p NUMBER TEXT    a run of the listing, after its number (one byte)
 //   r FILE           the records of a record file: the fields of each, then the bytes of a buffer of two records after it was put second
+#![tactic(auto)]
+
 use file::Found;
 use lexer::{Answer, Lexed};
 use numeral::{Value, Written};

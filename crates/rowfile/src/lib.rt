@@ -1,4 +1,6 @@
 // Files of rows of one width, one after the other: storing a row at its index, and exchanging two rows.
+#![tactic(auto)]
+
 ghost use Rattle.std.specs.Prelude.{◌≡◌, ◌+◌, ◌/◌, ◌≤◌, ◌<◌, length};
 ghost use Rattle.std.proofs.lemmas.List.Edits.{sets};
 ghost use Rattle.rowfile.specs.Rows.{has_room, stored, swapped};

@@ -1,4 +1,6 @@
 // The grammar's table in numbers: what each word begins in each block. Its rows stand in outer.rt and inner.rt.
+#![tactic(auto)]
+
 ghost use Rattle.std.specs.Prelude.{◌≡◌, false, ◌≤◌, drop};
 ghost use Rattle.rows.specs.Packed.{items_of, act_of, block_of, act_in, form_in, part_in, end_in, after_in, coded, word_of_kind};
 

@@ -1,4 +1,6 @@
 // Sorting the entries of an index in place: they are made a heap, whose first goes to the end again and again.
+#![tactic(auto)]
+
 ghost use Rattle.std.specs.Prelude.{◌≡◌, ◌/◌, ◌≤◌, ◌<◌, length};
 ghost use Rattle.entry.specs.Entries.{entry_in};
 ghost use Rattle.sorter.specs.Heap.{Gives, Sifts, Heaps, Sorts};

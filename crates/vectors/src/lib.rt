@@ -1,4 +1,6 @@
 // What the programs that replay vectors share: lines, bytes in hexadecimal, texts, and printing.
+#![tactic(auto)]
+
 ghost use Rattle.std.specs.Prelude.{◌≡◌, length, replicate};
 ghost use Rattle.vectors.specs.Next.{next};
 

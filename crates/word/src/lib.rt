@@ -1,4 +1,6 @@
 // The words of LEF: the number of the word that a token spells, found in one step, and the codes of the value words.
+#![tactic(auto)]
+
 ghost use Rattle.std.specs.Prelude.{◌≡◌, cond, ◌+◌, ◌-◌, ◌*◌, ◌^◌, ◌≤◌, ◌<◌, min, leb, length, take, drop};
 ghost use Rattle.little.specs.Little.{number};
 ghost use Rattle.word.specs.Words.{raised, upper, word_of, is_key};

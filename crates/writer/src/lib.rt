@@ -1,4 +1,6 @@
 // Writing the records of a text as its canonical text: statements in the order of the reading, one a line.
+#![tactic(auto)]
+
 ghost use Rattle.std.specs.Prelude.{◌≡◌, length};
 ghost use Rattle.file.specs.File.{held};
 ghost use Rattle.grammar.specs.Reading.{records, reading};

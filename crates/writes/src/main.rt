@@ -3,6 +3,8 @@
 //   w ROOM TEXT FILE   the room in four digits, a text and a record file: number, place and line, and then the buffer, which was filled
 //                      with `~`
 //   a TEXT             a text, which is read into a file and written: what is written, or `refusal` with number, place and line
+#![tactic(auto)]
+
 use refusal::Refusal;
 use vectors::{hex, plain, say};
 

@@ -1,0 +1,17 @@
+-- `eight::number_past` meets its contract: at each turn the run from the present place ends where the run from the place given does.
+use Prim.Native.Nat.{◌+◌, ◌-◌, ◌≤◌}
+use mathlib.Core.Path.{◌≡◌, ap, ◌∙◌}
+use borrow.Author.Rules.{rules}
+use native.Mathlib.Omega.{arith}
+use lib.Count.{trailing_le}
+use lib.ListN.{length}
+use Rattle.lexer.specs.Bytes.{in_number}
+use Rattle.lexer.specs.Run.{past}
+use Rattle.lexer.proofs.EightRuns.{here, beyond}
+use Rattle.lexer.proofs.eight.number_past.Given as goal
+
+abbrev pub invariant-loop-i : goal.invariant-loop-i
+invariant-loop-i l = (l.i ≤ length l.text) × (past in_number l.text l.i ≡ past in_number l.text l.at)
+
+abbrev pub decreases-loop-i : goal.decreases-loop-i
+decreases-loop-i l = length l.text - l.i

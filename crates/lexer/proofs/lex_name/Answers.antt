@@ -1,0 +1,7 @@
+-- `lex_name` meets its contract by those of `run_past` and `emit`.
+use borrow.Author.Rules.{rules}
+use Rattle.lexer.proofs.lex_name.Goals as goal
+
+pub returns : goal.returns
+returns c =
+    cc

@@ -1,0 +1,16 @@
+-- `scan::run_past` meets its contract: at each turn the run from the present place ends where the run from the place given does.
+use Prim.Native.Nat.{◌-◌}
+use mathlib.Core.Path.{◌≡◌, ◌∙◌}
+use borrow.Author.Rules.{rules}
+use native.Mathlib.Omega.{arith}
+use lib.ListN.{length}
+use Rattle.lexer.specs.Bytes.{goes_on}
+use Rattle.lexer.specs.Run.{past}
+use Rattle.lexer.proofs.Runs.{on, off, out}
+use Rattle.lexer.proofs.scan.run_past.Given as goal
+
+abbrev pub invariant-loop-i : goal.invariant-loop-i
+invariant-loop-i l = past (goes_on l.run) l.text l.i ≡ past (goes_on l.run) l.text l.at
+
+abbrev pub decreases-loop-i : goal.decreases-loop-i
+decreases-loop-i l = length l.text - l.i
