@@ -184,8 +184,9 @@ class Turn:
                 rest[0] = self.raw[(head, rest[0])]
             if len(rest) > 1 and rest[0] == "ensures" and rest[1].isdigit() and new in self.clauses:
                 cl = self.clauses[new]
-                if int(rest[1]) < len(cl):
-                    rest[1] = cl[int(rest[1])]
+                names = cl["fields"] or []
+                if int(rest[1]) < len(names):
+                    rest[1] = names[int(rest[1])]
             return [new] + rest
         return segs
 
@@ -194,6 +195,14 @@ class Turn:
         alias = {var}
         for m in re.finditer(r"let (" + IDENT + r") = (" + IDENT + r")((?:\.before)+) in", text):
             alias.add(m.group(1))
+        named, steps_named = {}, {}
+        for m in re.finditer(r"let (" + IDENT + r") (?::[^=]*)?= (" + IDENT + r")((?:\.[^\s(){}\[\],;.\"`«»]+)+)\s+in", text):
+            if m.group(2) in alias:
+                segs = self.path([q for q in m.group(3).split(".")[1:] if q != "before"])
+                if len(segs) == 2 and segs[1] == "ensures" and segs[0] in self.clauses:
+                    named[m.group(1)] = self.clauses[segs[0]]["fields"] or []
+                elif len(segs) == 1 and segs[0] in self.clauses:
+                    steps_named[m.group(1)] = self.clauses[segs[0]]["fields"] or []
         tok = re.compile(r"(?<![\w'₀-₉.-])(" + IDENT + r")((?:\.[^\s(){}\[\],;.\"`«»]+)+)?")
         out, at, last = [], 0, None
         for m in tok.finditer(text):
@@ -210,6 +219,13 @@ class Turn:
                         out[at_helper] = self.want(last, place)
                 elif "before" in path:
                     new = v if v == var else v
+            elif path and v in named and path[1:].split(".")[0].isdigit() and int(path[1:].split(".")[0]) < len(named[v]):
+                segs = path[1:].split(".")
+                new = ".".join([v, named[v][int(segs[0])]] + segs[1:])
+            elif path and v in steps_named and re.match(r"^\.ensures\.\d+", path):
+                segs = path[1:].split(".")
+                if int(segs[1]) < len(steps_named[v]):
+                    new = ".".join([v, "ensures", steps_named[v][int(segs[1])]] + segs[2:])
             elif path and v not in alias and v not in ("tie", "goal") and (v.islower() and len(v) <= 2):
                 # a part of a record that an alias of a step is: its fields stay
                 new = m.group(0)
@@ -375,7 +391,7 @@ def convert(crate, folder, info):
         place = asked.get(need[1]) if need else None
         term = t.body(term, var, place, helpers)
         name = need[1] if need else "UNKNOWN"
-        cl = info["asked"].get(name)
+        cl = info["asked"].get(need[0]) if need else None
         if cl:
             whole = term.rstrip()
             depth, start = 0, None
@@ -392,6 +408,7 @@ def convert(crate, folder, info):
             if parts and len(parts) == len(cl) and (before == "" or before.endswith(" in") or before.endswith("\nin") or before.endswith(".")):
                 term = whole[:start] + "record { " + "; ".join(f"{c} = {p}" for c, p in zip(cl, parts)) + " }"
             else:
+                term = f"let both = {term.strip()} in\n    record {{ " + "; ".join(f"{c} = both.{j}" for j, c in enumerate(cl)) + " }"
                 report.append(f"{name}: clauses {cl}")
         ans_out.append("\n".join(comments + [f"pub {name} : goal.{name}"] + ([unf] if unf else []) + [f"{name} {' '.join([var] + [x for x in params[1:] if x != 'κs'])} =\n    {term}"]))
     keep = [u for u in uses if not re.search(r"\.(Statement|Tie)(\.|\s|$)", u)]

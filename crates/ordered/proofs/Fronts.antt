@@ -74,12 +74,12 @@ module _ {A : Type 0} (before : A → A → Bool) where
         go u true e = let z = all_after d x l (after e) in record {
           within = omega arith;
           here = λ k p. absurd (omega arith);
-          past = λ k. elim k [ zero ↦ λ p q. e | suc k ↦ λ p q. after e k (le_of_suc-le-suc q) ];
+          past = λ k. elim k as (λ k. 0 ≤ k → k < suc (length l) → before x (get_or (a ∷ l) k d) ≡ true) [ zero ↦ λ p q. e | suc k ↦ λ p q. after e k (le_of_suc-le-suc q) ];
         }
         go u false e = record {
           within = suc-le-suc u.within;
-          here = λ k. elim k [ zero ↦ λ p. e | suc k ↦ λ p. u.here k (le_of_suc-le-suc p) ];
-          past = λ k. elim k [ zero ↦ λ p q. absurd (not-suc-le-zero p) | suc k ↦ λ p q. u.past k (le_of_suc-le-suc p) (le_of_suc-le-suc q) ];
+          here = λ k. elim k as (λ k. k < suc (up_to before x l) → before x (get_or (a ∷ l) k d) ≡ false) [ zero ↦ λ p. e | suc k ↦ λ p. u.here k (le_of_suc-le-suc p) ];
+          past = λ k. elim k as (λ k. suc (up_to before x l) ≤ k → k < suc (length l) → before x (get_or (a ∷ l) k d) ≡ true) [ zero ↦ λ p q. absurd (not-suc-le-zero p) | suc k ↦ λ p q. u.past k (le_of_suc-le-suc p) (le_of_suc-le-suc q) ];
         }
 
     -- as many as its place says do not come after a thing of the list

@@ -1,0 +1,61 @@
+-- `numeral::laid::lay` meets its contract: the sign, the whole part, and the decimals after a point where there are any.
+use mathlib.Core.Path.{◌∙◌}
+use borrow.Author.Rules.{rules}
+use native.Mathlib.Omega.{arith}
+use lib.ListN.{length-set}
+use Rattle.numeral.proofs.Parts.{length_shortest, length_pointed, no_decimals, some_decimals}
+use Rattle.numeral.proofs.laid.lay.Goals as goal
+
+pub lay_sign-p-requires : goal.lay_sign-p-requires
+lay_sign-p-requires c =
+    omega (arith, length_shortest c.args.negative c.args.m)
+
+pub lay_natural-q-requires : goal.lay_natural-q-requires
+lay_natural-q-requires c =
+    let s = c in
+    let p = c.lay_sign-p in
+    omega (arith, length_shortest s.args.negative s.args.m, p.ensures.value, p.auto, s.requires)
+
+pub returns-then-f-eq0 : goal.returns-then-f-eq0
+returns-then-f-eq0 c =
+    let both = let a = c.args in
+    let p = c.lay_sign-p.ensures in
+    let q = c.lay_natural-q.ensures in
+    no_decimals a.out.now a.at a.negative a.m c.if-f-eq0.true p.value p.out_after q.value q.out_after in
+    record { value = both.0; out_after = both.1 }
+
+pub bounds-out-q : goal.bounds-out-q
+bounds-out-q c =
+    let s = c in
+    let p = c.lay_sign-p in
+    let q = c.lay_natural-q in
+    omega (arith, length_pointed s.args.negative s.args.m c.if-f-eq0.false, p.ensures.value, p.auto, q.ensures.value, q.auto, s.requires)
+
+pub overflow_add-q : goal.overflow_add-q
+overflow_add-q c =
+    let s = c in
+    let p = c.lay_sign-p in
+    let q = c.lay_natural-q in
+    omega (arith, length_pointed s.args.negative s.args.m c.if-f-eq0.false, p.ensures.value, p.auto, q.ensures.value, q.auto, s.requires, s.well-formed)
+
+pub lay_fraction-requires : goal.lay_fraction-requires
+lay_fraction-requires c =
+    let s = c in
+    let p = c.lay_sign-p in
+    let q = c.lay_natural-q in
+    record { f_bound = omega arith; f_in_bounds = simp length-set (omega (arith, length_pointed s.args.negative s.args.m c.if-f-eq0.false, p.ensures.value, p.auto, q.ensures.value, q.auto, s.requires)) }
+
+pub shape_of-out : goal.shape_of-out
+shape_of-out c =
+    let p = c.lay_sign-p in
+    let q = c.lay_natural-q in
+    c.lay_fraction.auto.1.0 ∙ simp length-set (q.auto.1.0 ∙ p.auto.1.1.0)
+
+pub returns : goal.returns
+returns c =
+    let both = let a = c.args in
+    let p = c.lay_sign-p.ensures in
+    let q = c.lay_natural-q.ensures in
+    let r = c.lay_fraction.ensures in
+    some_decimals a.out.now a.at a.negative a.m c.if-f-eq0.false p.value p.out_after q.value q.out_after r.value r.out_after in
+    record { value = both.0; out_after = both.1 }

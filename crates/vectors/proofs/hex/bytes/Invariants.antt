@@ -1,0 +1,16 @@
+-- `hex::bytes` meets its contract: each turn puts the byte of the next two digits, until there are none or no room.
+use Prim.Native.Nat.{◌*◌, ◌-◌, ◌/◌}
+use borrow.Author.Rules.{rules}
+use borrow.Author.Tests.{ltb-true, ltb-false}
+use native.Mathlib.Omega.{arith}
+use lib.ListN.{length, drop}
+use Rattle.vectors.specs.Hex.{pairs}
+use Rattle.vectors.proofs.Laws.{pairs_more, pairs_end}
+use Rattle.vectors.proofs.Putting.{Putting, begun, more, all, full}
+use Rattle.vectors.proofs.hex.bytes.Given as goal
+
+abbrev pub invariant-loop-n : goal.invariant-loop-n
+invariant-loop-n l = Putting l.initial.out (pairs l.digits) l.out l.n (pairs (drop (2 * l.n) l.digits))
+
+abbrev pub decreases-loop-n : goal.decreases-loop-n
+decreases-loop-n l = length l.digits / 2 - l.n

@@ -1,0 +1,15 @@
+-- `word::codes::second_word` meets its contract: the value of a code c is the c-th pair of the list.
+use borrow.Author.Rules.{rules}
+use borrow.Author.Tests.{eq-eqb, ne_eqb}
+use Rattle.word.specs.Spelling.{second_of}
+use Rattle.word.proofs.codes.second_word.Goals as goal
+
+pub returns-then-code-eq0 : goal.returns-then-code-eq0
+unfolding second_of
+returns-then-code-eq0 c =
+    simp (eq-eqb _ _ c.if-code-eq0.true)
+
+pub returns : goal.returns
+unfolding second_of
+returns c =
+    simp (ne_eqb _ _ c.if-code-eq0.false) c.entry.ensures
