@@ -74,7 +74,7 @@ module _ {A : Type 0} (before : A → A → Bool) where
         go u true e = let z = all_after d x l (after e) in record {
           within = omega arith;
           here = λ k p. absurd (omega arith);
-          past = λ k. elim k as (λ k. 0 ≤ k → k < suc (length l) → before x (get_or (a ∷ l) k d) ≡ true) [ zero ↦ λ p q. e | suc k ↦ λ p q. after e k (le_of_suc-le-suc q) ];
+          past = λ k. elim k as (λ k. up_to before x l ≤ k → k < suc (length l) → before x (get_or (a ∷ l) k d) ≡ true) [ zero ↦ λ p q. e | suc k ↦ λ p q. after e k (le_of_suc-le-suc q) ];
         }
         go u false e = record {
           within = suc-le-suc u.within;

@@ -12,6 +12,7 @@ use Rattle.lexer.specs.Eight.{is_blank}
 use Rattle.lexer.specs.Run.{past}
 use Rattle.lexer.proofs.Near.{Near, past_space, past_newline, near_name, near_number, near_semicolon}
 use Rattle.lexer.proofs.lex_near.Goals as goal
+use Rattle.lexer.proofs.lex_near.Goals.{then-c-eq10, else-c-eq10}
 
 long : (c : goal.Then-c-eq10) → c.args.at + 17 ≤ length c.args.lent.now.now
 long c = omega (arith, leb-true)
@@ -29,10 +30,10 @@ near : (c : goal.After-shared_slice_known-then-c-1-unread)
     c.if-c-eq10.n
 near c =
     let h = long_after_shared_slice_known_then_c_1_unread c in
-    ⊎_elim
-    (λ w. past_newline _ _ _ _ _ h w.0.taken (omega (arith, w.3, w.1.ensures.1)) (ap (past is_blank _) w.3 ∙ w.1.ensures.2) (w.4 ∙ w.2.ensures))
-    (λ w. past_space _ _ _ _ _ h c.if-c.true w.0.left w.1 w.2)
-    c.if-c-eq10.branch
+    elim c.if-c-eq10.branch [
+      | then-c-eq10 w ↦ past_newline _ _ _ _ _ h w.if-c-eq10.true (omega (arith, w.i-is, w.near_blanks-i.ensures.1)) (ap (past is_blank _) w.i-is ∙ w.near_blanks-i.ensures.2) (w.n-is ∙ w.lex_newline-n.ensures)
+      | else-c-eq10 w ↦ past_space _ _ _ _ _ h c.if-c.true w.if-c-eq10.false w.i-is w.n-is
+    ]
 
 long_after_row_known_1 : (c : goal.After-row_known-1) → c.args.at + 17 ≤ length c.args.lent.now.now
 long_after_row_known_1 c = omega (arith, leb-true)
@@ -47,10 +48,10 @@ near_after_row_known_1 : (c : goal.After-row_known-1)
     c.if-c-eq10.n
 near_after_row_known_1 c =
     let h = long_after_row_known_1 c in
-    ⊎_elim
-    (λ w. past_newline _ _ _ _ _ h w.0.taken (omega (arith, w.3, w.1.ensures.1)) (ap (past is_blank _) w.3 ∙ w.1.ensures.2) (w.4 ∙ w.2.ensures))
-    (λ w. past_space _ _ _ _ _ h c.if-c.true w.0.left w.1 w.2)
-    c.if-c-eq10.branch
+    elim c.if-c-eq10.branch [
+      | then-c-eq10 w ↦ past_newline _ _ _ _ _ h w.if-c-eq10.true (omega (arith, w.i-is, w.near_blanks-i.ensures.1)) (ap (past is_blank _) w.i-is ∙ w.near_blanks-i.ensures.2) (w.n-is ∙ w.lex_newline-n.ensures)
+      | else-c-eq10 w ↦ past_space _ _ _ _ _ h c.if-c.true w.if-c-eq10.false w.i-is w.n-is
+    ]
 
 long_then_ends_ne0 : (c : goal.Then-ends-ne0) → c.args.at + 17 ≤ length c.args.lent.now.now
 long_then_ends_ne0 c = omega (arith, leb-true)
@@ -65,10 +66,10 @@ near_then_ends_ne0 : (c : goal.Then-ends-ne0)
     c.if-c-eq10.n
 near_then_ends_ne0 c =
     let h = long_then_ends_ne0 c in
-    ⊎_elim
-    (λ w. past_newline _ _ _ _ _ h w.0.taken (omega (arith, w.3, w.1.ensures.1)) (ap (past is_blank _) w.3 ∙ w.1.ensures.2) (w.4 ∙ w.2.ensures))
-    (λ w. past_space _ _ _ _ _ h c.if-c.true w.0.left w.1 w.2)
-    c.if-c-eq10.branch
+    elim c.if-c-eq10.branch [
+      | then-c-eq10 w ↦ past_newline _ _ _ _ _ h w.if-c-eq10.true (omega (arith, w.i-is, w.near_blanks-i.ensures.1)) (ap (past is_blank _) w.i-is ∙ w.near_blanks-i.ensures.2) (w.n-is ∙ w.lex_newline-n.ensures)
+      | else-c-eq10 w ↦ past_space _ _ _ _ _ h c.if-c.true w.if-c-eq10.false w.i-is w.n-is
+    ]
 
 long_after_before_then_ends_ne0 : (c : goal.After-before-then-ends-ne0) → c.args.at + 17 ≤ length c.args.lent.now.now
 long_after_before_then_ends_ne0 c = omega (arith, leb-true)
@@ -83,10 +84,10 @@ near_after_before_then_ends_ne0 : (c : goal.After-before-then-ends-ne0)
     c.if-c-eq10.n
 near_after_before_then_ends_ne0 c =
     let h = long_after_before_then_ends_ne0 c in
-    ⊎_elim
-    (λ w. past_newline _ _ _ _ _ h w.0.taken (omega (arith, w.3, w.1.ensures.1)) (ap (past is_blank _) w.3 ∙ w.1.ensures.2) (w.4 ∙ w.2.ensures))
-    (λ w. past_space _ _ _ _ _ h c.if-c.true w.0.left w.1 w.2)
-    c.if-c-eq10.branch
+    elim c.if-c-eq10.branch [
+      | then-c-eq10 w ↦ past_newline _ _ _ _ _ h w.if-c-eq10.true (omega (arith, w.i-is, w.near_blanks-i.ensures.1)) (ap (past is_blank _) w.i-is ∙ w.near_blanks-i.ensures.2) (w.n-is ∙ w.lex_newline-n.ensures)
+      | else-c-eq10 w ↦ past_space _ _ _ _ _ h c.if-c.true w.if-c-eq10.false w.i-is w.n-is
+    ]
 
 long_after_emit : (c : goal.After-emit) → c.args.at + 17 ≤ length c.args.lent.now.now
 long_after_emit c = omega (arith, leb-true)
@@ -101,10 +102,10 @@ near_after_emit : (c : goal.After-emit)
     c.if-c-eq10.n
 near_after_emit c =
     let h = long_after_emit c in
-    ⊎_elim
-    (λ w. past_newline _ _ _ _ _ h w.0.taken (omega (arith, w.3, w.1.ensures.1)) (ap (past is_blank _) w.3 ∙ w.1.ensures.2) (w.4 ∙ w.2.ensures))
-    (λ w. past_space _ _ _ _ _ h c.if-c.true w.0.left w.1 w.2)
-    c.if-c-eq10.branch
+    elim c.if-c-eq10.branch [
+      | then-c-eq10 w ↦ past_newline _ _ _ _ _ h w.if-c-eq10.true (omega (arith, w.i-is, w.near_blanks-i.ensures.1)) (ap (past is_blank _) w.i-is ∙ w.near_blanks-i.ensures.2) (w.n-is ∙ w.lex_newline-n.ensures)
+      | else-c-eq10 w ↦ past_space _ _ _ _ _ h c.if-c.true w.if-c-eq10.false w.i-is w.n-is
+    ]
 
 long_then_ends_ne0_2 : (c : goal.Then-ends-ne0-2) → c.args.at + 17 ≤ length c.args.lent.now.now
 long_then_ends_ne0_2 c = omega (arith, leb-true)
@@ -119,10 +120,10 @@ near_then_ends_ne0_2 : (c : goal.Then-ends-ne0-2)
     c.if-c-eq10.n
 near_then_ends_ne0_2 c =
     let h = long_then_ends_ne0_2 c in
-    ⊎_elim
-    (λ w. past_newline _ _ _ _ _ h w.0.taken (omega (arith, w.3, w.1.ensures.1)) (ap (past is_blank _) w.3 ∙ w.1.ensures.2) (w.4 ∙ w.2.ensures))
-    (λ w. past_space _ _ _ _ _ h c.if-c.true w.0.left w.1 w.2)
-    c.if-c-eq10.branch
+    elim c.if-c-eq10.branch [
+      | then-c-eq10 w ↦ past_newline _ _ _ _ _ h w.if-c-eq10.true (omega (arith, w.i-is, w.near_blanks-i.ensures.1)) (ap (past is_blank _) w.i-is ∙ w.near_blanks-i.ensures.2) (w.n-is ∙ w.lex_newline-n.ensures)
+      | else-c-eq10 w ↦ past_space _ _ _ _ _ h c.if-c.true w.if-c-eq10.false w.i-is w.n-is
+    ]
 
 long_after_before_then_ends_ne0_2 : (c : goal.After-before-then-ends-ne0-2) → c.args.at + 17 ≤ length c.args.lent.now.now
 long_after_before_then_ends_ne0_2 c = omega (arith, leb-true)
@@ -137,10 +138,10 @@ near_after_before_then_ends_ne0_2 : (c : goal.After-before-then-ends-ne0-2)
     c.if-c-eq10.n
 near_after_before_then_ends_ne0_2 c =
     let h = long_after_before_then_ends_ne0_2 c in
-    ⊎_elim
-    (λ w. past_newline _ _ _ _ _ h w.0.taken (omega (arith, w.3, w.1.ensures.1)) (ap (past is_blank _) w.3 ∙ w.1.ensures.2) (w.4 ∙ w.2.ensures))
-    (λ w. past_space _ _ _ _ _ h c.if-c.true w.0.left w.1 w.2)
-    c.if-c-eq10.branch
+    elim c.if-c-eq10.branch [
+      | then-c-eq10 w ↦ past_newline _ _ _ _ _ h w.if-c-eq10.true (omega (arith, w.i-is, w.near_blanks-i.ensures.1)) (ap (past is_blank _) w.i-is ∙ w.near_blanks-i.ensures.2) (w.n-is ∙ w.lex_newline-n.ensures)
+      | else-c-eq10 w ↦ past_space _ _ _ _ _ h c.if-c.true w.if-c-eq10.false w.i-is w.n-is
+    ]
 
 long_after_emit_then_ends_ne0_2 : (c : goal.After-emit-then-ends-ne0-2) → c.args.at + 17 ≤ length c.args.lent.now.now
 long_after_emit_then_ends_ne0_2 c = omega (arith, leb-true)
@@ -155,10 +156,10 @@ near_after_emit_then_ends_ne0_2 : (c : goal.After-emit-then-ends-ne0-2)
     c.if-c-eq10.n
 near_after_emit_then_ends_ne0_2 c =
     let h = long_after_emit_then_ends_ne0_2 c in
-    ⊎_elim
-    (λ w. past_newline _ _ _ _ _ h w.0.taken (omega (arith, w.3, w.1.ensures.1)) (ap (past is_blank _) w.3 ∙ w.1.ensures.2) (w.4 ∙ w.2.ensures))
-    (λ w. past_space _ _ _ _ _ h c.if-c.true w.0.left w.1 w.2)
-    c.if-c-eq10.branch
+    elim c.if-c-eq10.branch [
+      | then-c-eq10 w ↦ past_newline _ _ _ _ _ h w.if-c-eq10.true (omega (arith, w.i-is, w.near_blanks-i.ensures.1)) (ap (past is_blank _) w.i-is ∙ w.near_blanks-i.ensures.2) (w.n-is ∙ w.lex_newline-n.ensures)
+      | else-c-eq10 w ↦ past_space _ _ _ _ _ h c.if-c.true w.if-c-eq10.false w.i-is w.n-is
+    ]
 
 long_then_b_eq59 : (c : goal.Then-b-eq59) → c.args.at + 17 ≤ length c.args.lent.now.now
 long_then_b_eq59 c = omega (arith, leb-true)
@@ -173,10 +174,10 @@ near_then_b_eq59 : (c : goal.Then-b-eq59)
     c.if-c-eq10.n
 near_then_b_eq59 c =
     let h = long_then_b_eq59 c in
-    ⊎_elim
-    (λ w. past_newline _ _ _ _ _ h w.0.taken (omega (arith, w.3, w.1.ensures.1)) (ap (past is_blank _) w.3 ∙ w.1.ensures.2) (w.4 ∙ w.2.ensures))
-    (λ w. past_space _ _ _ _ _ h c.if-c.true w.0.left w.1 w.2)
-    c.if-c-eq10.branch
+    elim c.if-c-eq10.branch [
+      | then-c-eq10 w ↦ past_newline _ _ _ _ _ h w.if-c-eq10.true (omega (arith, w.i-is, w.near_blanks-i.ensures.1)) (ap (past is_blank _) w.i-is ∙ w.near_blanks-i.ensures.2) (w.n-is ∙ w.lex_newline-n.ensures)
+      | else-c-eq10 w ↦ past_space _ _ _ _ _ h c.if-c.true w.if-c-eq10.false w.i-is w.n-is
+    ]
 
 long_after_emit_then_b_eq59 : (c : goal.After-emit-then-b-eq59) → c.args.at + 17 ≤ length c.args.lent.now.now
 long_after_emit_then_b_eq59 c = omega (arith, leb-true)
@@ -191,10 +192,10 @@ near_after_emit_then_b_eq59 : (c : goal.After-emit-then-b-eq59)
     c.if-c-eq10.n
 near_after_emit_then_b_eq59 c =
     let h = long_after_emit_then_b_eq59 c in
-    ⊎_elim
-    (λ w. past_newline _ _ _ _ _ h w.0.taken (omega (arith, w.3, w.1.ensures.1)) (ap (past is_blank _) w.3 ∙ w.1.ensures.2) (w.4 ∙ w.2.ensures))
-    (λ w. past_space _ _ _ _ _ h c.if-c.true w.0.left w.1 w.2)
-    c.if-c-eq10.branch
+    elim c.if-c-eq10.branch [
+      | then-c-eq10 w ↦ past_newline _ _ _ _ _ h w.if-c-eq10.true (omega (arith, w.i-is, w.near_blanks-i.ensures.1)) (ap (past is_blank _) w.i-is ∙ w.near_blanks-i.ensures.2) (w.n-is ∙ w.lex_newline-n.ensures)
+      | else-c-eq10 w ↦ past_space _ _ _ _ _ h c.if-c.true w.if-c-eq10.false w.i-is w.n-is
+    ]
 
 pub near_blanks-i-requires : goal.near_blanks-i-requires
 near_blanks-i-requires c =
