@@ -34,6 +34,7 @@ starts_suf ps here h = h
 starts_suf ps (there {b} {k} {l} s) h = starts_skip ps b l (starts_suf ps s h)
 
 starts_keep : {A M : Type 0} (ps : List A) (t u : Tok A M) (k l : List (Tok A M)) → Suf (u ∷ k) l → Sub ps (starts (u ∷ k)) → Sub (t.at ∷ ps) (starts (t ∷ l))
+starts_keep ps t u k [] s h = elim s [ ]
 starts_keep ps t u k (w ∷ l) s h = keep (starts_suf ps s h)
 
 -- THE PLACES of the records are those of tokens ahead, in order, none twice
