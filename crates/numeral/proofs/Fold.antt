@@ -1,7 +1,7 @@
 -- Reading byte by byte gives what `unsigned_of` says, by recursion on the bytes: first for the zeros past the sixth decimal, then
 -- for the decimals, then for the whole.
 use Prim.Native.Nat.{ℕ, zero, suc, ◌+◌, ◌-◌, ◌*◌, ◌^◌, ◌≤◌, ◌<◌}
-use mathlib.Core.Path.{◌≡◌, refl, ◌∙◌}
+use mathlib.Core.Path.{◌≡◌, refl, ◌∙◌, ap}
 use mathlib.Core.Bool.{Bool, true, false, cond, not, ◌&&◌, ◌||◌, or-false, or-true, and-true, and-false}
 use mathlib.Core.List.{List, [], ◌∷◌, ◌++◌}
 use lib.ListN.{length, take, drop, length-append, length-take}
@@ -46,7 +46,9 @@ Decimals neg empty r x s =
 
 decimal_step : (neg empty : Bool) (r x b : ℕ) (s : List ℕ) (t : Bool) → digit b ≡ t
     → ((r' x' : ℕ) → Decimals neg false r' x' s) → Decimals neg empty r x (b ∷ s)
-decimal_step neg empty zero x b s t e ih = simp (zero-sub, and-true, zeros_digits (b ∷ s), mul-one) (zeros neg x (b ∷ s))
+decimal_step neg empty zero x b s t e ih =
+    let p : x * 10 ^ 0 ≡ x = omega arith in
+    ap (λ (n : ℕ). zeros_of neg n (b ∷ s)) p ∙ simp (zero-sub, and-true, zeros_digits (b ∷ s), mul-one) (zeros neg x (b ∷ s))
 decimal_step neg empty (suc r) x b s false e ih = simp e
 decimal_step neg empty (suc r) x b s true e ih =
     simp (e, one_more, suc-sub-suc, and-true) (simp (or-true, and-true) at (ih r (x * 10 + (b - 48))))

@@ -2,20 +2,15 @@
 -- the decimals that still count do not take the number past `top`. The measure is what is left of the length.
 use Prim.Native.Nat.{ℕ, suc, ◌≤◌, ◌<◌, ◌-◌, ◌+◌, ◌*◌, ◌^◌}
 use mathlib.Core.Path.{◌≡◌, refl, sym, ◌∙◌}
-use borrow.Author.Rules.{rules}
 use borrow.Author.Tests.{not-true, not-false}
 use native.Mathlib.Omega.{arith}
 use native.Mathlib.Numerals.{add-one}
 use native.Mathlib.Nat.{pow-suc, mul-le-mul_right}
-use lib.ListN.{length, drop, get_or, drop_of_length-le}
+use lib.ListN.{length, get_or, drop_of_length-le}
 use lib.Seq.{drop-cons}
-use Rattle.numeral.specs.Machine.{most, decimals_of}
 use Rattle.numeral.proofs.Digits.{digit_high}
+use Rattle.numeral.proofs.decimals.Invariants.{top}
 use Rattle.numeral.proofs.decimals.Goals as goal
-
--- the greatest whole part and one more, in millionths
-abbrev top : ℕ
-top = (most + 1) * 1000000
 
 -- of a digit d with k decimals after it: 9 is the greatest, and leaves room for them
 fits : (x d k : ℕ) → x + 10 ^ suc k ≤ top → d ≤ 9 → x + d * 10 ^ k + 10 ^ k ≤ top

@@ -1,17 +1,14 @@
 -- `numeral::decimals` meets its contract. The loop's invariant: what is left, read on, comes to what the whole comes to, and
 -- the decimals that still count do not take the number past `top`. The measure is what is left of the length.
-use Prim.Native.Nat.{ℕ, suc, ◌≤◌, ◌<◌, ◌-◌, ◌+◌, ◌*◌, ◌^◌}
-use mathlib.Core.Path.{◌≡◌, refl, sym, ◌∙◌}
-use borrow.Author.Rules.{rules}
-use borrow.Author.Tests.{not-true, not-false}
-use native.Mathlib.Omega.{arith}
-use native.Mathlib.Numerals.{add-one}
-use native.Mathlib.Nat.{pow-suc, mul-le-mul_right}
-use lib.ListN.{length, drop, get_or, drop_of_length-le}
-use lib.Seq.{drop-cons}
+use Prim.Native.Nat.{ℕ, ◌≤◌, ◌-◌, ◌+◌, ◌*◌, ◌^◌}
+use mathlib.Core.Path.{◌≡◌}
+use lib.ListN.{length, drop}
 use Rattle.numeral.specs.Machine.{most, decimals_of}
-use Rattle.numeral.proofs.Digits.{digit_high}
 use Rattle.numeral.proofs.decimals.Given as goal
+
+-- the greatest whole part and one more, in millionths
+abbrev pub top : ℕ
+top = (most + 1) * 1000000
 
 abbrev pub invariant-loop-i : goal.invariant-loop-i
 invariant-loop-i l = (l.i ≤ length l.part) × (l.room ≤ 6) × (l.x + 10 ^ l.room ≤ top)

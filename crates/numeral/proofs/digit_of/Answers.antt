@@ -1,5 +1,4 @@
 -- `numeral::digit_of` meets its contract: a digit is `0` at least.
-use borrow.Author.Rules.{rules}
 use Rattle.numeral.proofs.Digits.{digit_low}
 use Rattle.numeral.proofs.digit_of.Goals as goal
 

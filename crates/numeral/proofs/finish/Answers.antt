@@ -1,5 +1,4 @@
 -- `numeral::finish` meets its contract: at each `return` the tests that led there say which case of `ended` holds.
-use borrow.Author.Rules.{rules}
 use borrow.Author.Tests.{le-leb, lt-leb, eq-eqb, ne_eqb}
 use Rattle.numeral.proofs.finish.Goals as goal
 

@@ -1,6 +1,5 @@
 -- `numeral::stored` meets its contract: below nought, 2 ^ 64 less the magnitude is a word.
 use mathlib.Core.Path.{sym, ◌∙◌}
-use borrow.Author.Rules.{rules}
 use native.Mathlib.Omega.{arith}
 use Rattle.numeral.proofs.Word.{stored_below, stored_not_below}
 use Rattle.numeral.proofs.stored.Goals as goal

@@ -1,15 +1,12 @@
 -- `numeral::unsigned` meets its contract. The loop's invariant: what is left, read on, comes to what the whole comes to.
 -- The measure is what is left of the length.
-use Prim.Native.Nat.{◌≤◌, ◌<◌, ◌-◌}
-use mathlib.Core.Path.{◌≡◌, refl, sym, ◌∙◌}
-use mathlib.Core.Bool.{true}
-use borrow.Author.Rules.{rules}
+use Prim.Native.Nat.{◌≤◌, ◌<◌}
+use mathlib.Core.Path.{refl, sym, ◌∙◌}
 use borrow.Author.Tests.{eq-eqb, ne_eqb, le-leb, lt-leb, not-true, not-false}
 use native.Mathlib.Omega.{arith}
 use native.Mathlib.Numerals.{add-one}
-use lib.ListN.{length, drop, drop_of_length-le}
+use lib.ListN.{length, drop_of_length-le}
 use lib.Seq.{drop-cons}
-use Rattle.numeral.specs.Machine.{most, whole_of}
 use Rattle.numeral.proofs.unsigned.Goals as goal
 
 pub loop-i-init : goal.loop-i-init

@@ -2,7 +2,6 @@
 use Prim.Native.Nat.{◌<◌, ◌≤◌, ◌^◌}
 use mathlib.Core.Path.{ap}
 use mathlib.Core.Bool.{true}
-use borrow.Author.Rules.{rules}
 use borrow.Author.Tests.{lt-ltb, le-ltb}
 use native.Mathlib.Omega.{arith}
 use Rattle.numeral.specs.declared.Value.TheVariants.{Scaled}

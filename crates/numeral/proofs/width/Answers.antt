@@ -1,5 +1,4 @@
 -- `numeral::width` meets its contract: the lengths of the parts, which are short, add up.
-use borrow.Author.Rules.{rules}
 use native.Mathlib.Omega.{arith}
 use Rattle.numeral.proofs.Parts.{length_plain, length_pointed}
 use Rattle.numeral.proofs.Short.{short_any}

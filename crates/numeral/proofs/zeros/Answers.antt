@@ -1,13 +1,12 @@
 -- `numeral::zeros` meets its contract. The loop's invariant: what is left comes to what the whole comes to.
 -- The measure is what is left of the length.
-use Prim.Native.Nat.{◌≤◌, ◌<◌, ◌-◌}
-use mathlib.Core.Path.{◌≡◌, refl, ◌∙◌}
+use Prim.Native.Nat.{◌≤◌, ◌<◌}
+use mathlib.Core.Path.{refl, ◌∙◌}
 use borrow.Author.Tests.{eq-eqb, ne_eqb}
 use native.Mathlib.Omega.{arith}
 use native.Mathlib.Numerals.{add-one}
-use lib.ListN.{length, drop, drop_of_length-le}
+use lib.ListN.{length, drop_of_length-le}
 use lib.Seq.{drop-cons}
-use Rattle.numeral.specs.Machine.{zeros_of}
 use Rattle.numeral.proofs.zeros.Goals as goal
 
 pub loop-i-init : goal.loop-i-init

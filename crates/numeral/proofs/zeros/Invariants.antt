@@ -1,12 +1,8 @@
 -- `numeral::zeros` meets its contract. The loop's invariant: what is left comes to what the whole comes to.
 -- The measure is what is left of the length.
-use Prim.Native.Nat.{◌≤◌, ◌<◌, ◌-◌}
-use mathlib.Core.Path.{◌≡◌, refl, ◌∙◌}
-use borrow.Author.Tests.{eq-eqb, ne_eqb}
-use native.Mathlib.Omega.{arith}
-use native.Mathlib.Numerals.{add-one}
-use lib.ListN.{length, drop, drop_of_length-le}
-use lib.Seq.{drop-cons}
+use Prim.Native.Nat.{◌≤◌, ◌-◌}
+use mathlib.Core.Path.{◌≡◌}
+use lib.ListN.{length, drop}
 use Rattle.numeral.specs.Machine.{zeros_of}
 use Rattle.numeral.proofs.zeros.Given as goal
 

@@ -1,6 +1,6 @@
 -- `numeral::laid::fraction_width` meets its contract. The loop's invariant: the decimals that are left, and those that are counted.
 -- The measure is the places that are left.
-use Prim.Native.Nat.{◌≤◌, ◌<◌, ◌+◌, ◌-◌, ◌%◌, ◌^◌}
+use Prim.Native.Nat.{◌≤◌, ◌+◌, ◌-◌, ◌%◌, ◌^◌}
 use mathlib.Core.Path.{◌≡◌, ap}
 use mathlib.Core.List.{[]}
 use native.Mathlib.Omega.{arith}

@@ -1,15 +1,9 @@
 -- `numeral::laid::fraction_width` meets its contract. The loop's invariant: the decimals that are left, and those that are counted.
 -- The measure is the places that are left.
-use Prim.Native.Nat.{◌≤◌, ◌<◌, ◌+◌, ◌-◌, ◌%◌, ◌^◌}
-use mathlib.Core.Path.{◌≡◌, ap}
-use mathlib.Core.List.{[]}
-use native.Mathlib.Omega.{arith}
-use native.Mathlib.Nat.{mod-lt}
+use Prim.Native.Nat.{◌≤◌, ◌<◌, ◌+◌, ◌^◌}
+use mathlib.Core.Path.{◌≡◌}
 use lib.ListN.{length}
 use Rattle.numeral.specs.Shortest.{fraction}
-use Rattle.numeral.proofs.Digits.{power_pos}
-use Rattle.numeral.proofs.Parts.{fraction_none, turn}
-use Rattle.numeral.proofs.Short.{fraction_length}
 use Rattle.numeral.proofs.laid.fraction_width.Given as goal
 
 abbrev pub invariant-loop-rest : goal.invariant-loop-rest

@@ -1,6 +1,5 @@
 -- `numeral::laid::lay` meets its contract: the sign, the whole part, and the decimals after a point where there are any.
 use mathlib.Core.Path.{◌∙◌}
-use borrow.Author.Rules.{rules}
 use native.Mathlib.Omega.{arith}
 use lib.ListN.{length-set}
 use Rattle.numeral.proofs.Parts.{length_shortest, length_pointed, no_decimals, some_decimals}
@@ -36,7 +35,7 @@ overflow_add-q c =
     let s = c in
     let p = c.lay_sign-p in
     let q = c.lay_natural-q in
-    omega (arith, length_pointed s.args.negative s.args.m c.if-f-eq0.false, p.ensures.value, p.auto, q.ensures.value, q.auto, s.requires, s.well-formed)
+    omega (arith, length_pointed s.args.negative s.args.m c.if-f-eq0.false, p.ensures.value, p.auto, q.ensures.value, q.auto, s.requires, s.well_formed)
 
 pub lay_fraction-requires : goal.lay_fraction-requires
 lay_fraction-requires c =
@@ -49,7 +48,7 @@ pub shape_of-out : goal.shape_of-out
 shape_of-out c =
     let p = c.lay_sign-p in
     let q = c.lay_natural-q in
-    c.lay_fraction.auto.1.0 ∙ simp length-set (q.auto.1.0 ∙ p.auto.1.1.0)
+    c.lay_fraction.auto.out ∙ simp length-set (q.auto.out ∙ p.auto.out)
 
 pub returns : goal.returns
 returns c =

@@ -7,7 +7,6 @@ use native.Mathlib.Omega.{arith}
 use native.Mathlib.Nat.{mod-lt}
 use native.Mathlib.Numerals.{add-one}
 use lib.ListN.{length, length-set}
-use lib.Seq.{sets}
 use Rattle.numeral.specs.Shortest.{fraction}
 use Rattle.numeral.proofs.Digits.{power_pos}
 use Rattle.numeral.proofs.Parts.{fraction_none, turn}

@@ -1,16 +1,10 @@
 -- `numeral::laid::lay_fraction` meets its contract. The loop's invariant: what is left, written on, comes to what the whole comes to.
 -- The measure is the places that are left.
-use Prim.Native.Nat.{suc, ◌≤◌, ◌<◌, ◌+◌, ◌-◌, ◌/◌, ◌%◌, ◌^◌}
-use mathlib.Core.Path.{◌≡◌, refl, ap}
-use mathlib.Core.List.{[], ◌∷◌}
-use native.Mathlib.Omega.{arith}
-use native.Mathlib.Nat.{mod-lt}
-use native.Mathlib.Numerals.{add-one}
-use lib.ListN.{length, length-set}
+use Prim.Native.Nat.{◌≤◌, ◌<◌, ◌+◌, ◌^◌}
+use mathlib.Core.Path.{◌≡◌}
+use lib.ListN.{length}
 use lib.Seq.{sets}
 use Rattle.numeral.specs.Shortest.{fraction}
-use Rattle.numeral.proofs.Digits.{power_pos}
-use Rattle.numeral.proofs.Parts.{fraction_none, turn}
 use Rattle.numeral.proofs.laid.lay_fraction.Given as goal
 
 abbrev pub invariant-loop-rest : goal.invariant-loop-rest

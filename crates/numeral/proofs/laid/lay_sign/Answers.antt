@@ -1,7 +1,6 @@
 -- `numeral::laid::lay_sign` meets its contract: the test says whether there is a minus.
 use mathlib.Core.Path.{◌≡◌, sym, ◌∙◌}
 use mathlib.Core.Bool.{true, false}
-use borrow.Author.Rules.{rules}
 use native.Mathlib.Omega.{arith}
 use native.Mathlib.Nat.{add-zero}
 use Rattle.numeral.specs.Shortest.{below_nought}

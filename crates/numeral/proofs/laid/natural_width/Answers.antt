@@ -1,10 +1,8 @@
 -- `numeral::laid::natural_width` meets its contract. The loop's invariant: the digits that are left, and those that are counted.
 -- The measure is the number.
-use Prim.Native.Nat.{◌≤◌, ◌+◌}
-use mathlib.Core.Path.{◌≡◌, ap}
+use mathlib.Core.Path.{ap}
 use native.Mathlib.Omega.{arith}
 use lib.ListN.{length}
-use Rattle.numeral.specs.Shortest.{natural}
 use Rattle.numeral.proofs.Parts.{whole_small, whole_large_length}
 use Rattle.numeral.proofs.Short.{natural_length}
 use Rattle.numeral.proofs.laid.natural_width.Goals as goal

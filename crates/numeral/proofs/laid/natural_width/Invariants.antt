@@ -1,12 +1,9 @@
 -- `numeral::laid::natural_width` meets its contract. The loop's invariant: the digits that are left, and those that are counted.
 -- The measure is the number.
 use Prim.Native.Nat.{◌≤◌, ◌+◌}
-use mathlib.Core.Path.{◌≡◌, ap}
-use native.Mathlib.Omega.{arith}
+use mathlib.Core.Path.{◌≡◌}
 use lib.ListN.{length}
 use Rattle.numeral.specs.Shortest.{natural}
-use Rattle.numeral.proofs.Parts.{whole_small, whole_large_length}
-use Rattle.numeral.proofs.Short.{natural_length}
 use Rattle.numeral.proofs.laid.natural_width.Given as goal
 
 abbrev pub invariant-loop-rest : goal.invariant-loop-rest

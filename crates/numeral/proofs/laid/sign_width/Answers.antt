@@ -1,6 +1,5 @@
 -- `numeral::laid::sign_width` meets its contract: the test says whether there is a minus.
 use mathlib.Core.Path.{sym, ◌∙◌}
-use borrow.Author.Rules.{rules}
 use Rattle.numeral.proofs.laid.sign_width.Goals as goal
 
 pub returns-then-below_nought : goal.returns-then-below_nought
