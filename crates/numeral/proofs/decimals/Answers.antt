@@ -2,7 +2,6 @@
 -- the decimals that still count do not take the number past `top`. The measure is what is left of the length.
 use Prim.Native.Nat.{ℕ, suc, ◌≤◌, ◌<◌, ◌-◌, ◌+◌, ◌*◌, ◌^◌}
 use mathlib.Core.Path.{◌≡◌, refl, sym, ◌∙◌}
-use borrow.Author.Tests.{not-true, not-false}
 use native.Mathlib.Omega.{arith}
 use native.Mathlib.Numerals.{add-one}
 use native.Mathlib.Nat.{pow-suc, mul-le-mul_right}
@@ -25,7 +24,7 @@ read_fits c =
     let l = c.loop-i in
     let b = get_or part l.i 0 in
     let k : l.room ≡ suc (l.room - 1) = omega arith in
-    let d = sym c.is_digit.ensures ∙ not-false _ c.if-not-is_digit.false-raw in
+    let d = sym c.is_digit.ensures ∙ c.if-not-is_digit.false in
     let n : b - 48 ≤ 9 = omega (arith, digit_high b d) in
     rw (c.digit_of.ensures, c.power.ensures) (fits l.x (b - 48) (l.room - 1) (rw k at l.invariant.2) n)
 
@@ -59,7 +58,7 @@ returns-then-not-is_digit c =
     let l = c.loop-i in
     let h : l.i < length part = omega arith in
     let k : l.room ≡ suc (l.room - 1) = omega arith in
-    let d = sym c.is_digit.ensures ∙ not-true _ c.if-not-is_digit.true-raw in
+    let d = sym c.is_digit.ensures ∙ c.if-not-is_digit.true in
     simp d at (rw (k, drop-cons part l.i 0 h) at l.invariant.3)
 
 pub overflow_sub-room : goal.overflow_sub-room
@@ -68,7 +67,7 @@ overflow_sub-room c =
 
 pub digit_of-requires : goal.digit_of-requires
 digit_of-requires c =
-    sym c.is_digit.ensures ∙ not-false _ c.if-not-is_digit.false-raw
+    sym c.is_digit.ensures ∙ c.if-not-is_digit.false
 
 pub power-requires : goal.power-requires
 power-requires c =
@@ -96,7 +95,7 @@ loop-i-preserved c =
     let l = c.loop-i in
     let h : l.i < length part = omega arith in
     let k : l.room ≡ suc (l.room - 1) = omega arith in
-    let d = sym c.is_digit.ensures ∙ not-false _ c.if-not-is_digit.false-raw in (
+    let d = sym c.is_digit.ensures ∙ c.if-not-is_digit.false in (
       omega arith,
       omega arith,
       read_fits c,

@@ -2,7 +2,7 @@
 -- The measure is what is left of the length.
 use Prim.Native.Nat.{◌≤◌, ◌<◌}
 use mathlib.Core.Path.{refl, sym, ◌∙◌}
-use borrow.Author.Tests.{eq-eqb, ne_eqb, le-leb, lt-leb, not-true, not-false}
+use borrow.Author.Tests.{eq-eqb, ne_eqb, le-leb, lt-leb}
 use native.Mathlib.Omega.{arith}
 use native.Mathlib.Numerals.{add-one}
 use lib.ListN.{length, drop_of_length-le}
@@ -38,19 +38,19 @@ returns-then-not-is_digit c =
     let part = c.args.part.now in
     let l = c.loop-i in
     let h : l.i < length part = omega arith in
-    let d = sym c.is_digit.ensures ∙ not-true _ c.if-not-is_digit.true-raw in
+    let d = sym c.is_digit.ensures ∙ c.if-not-is_digit.true in
     simp (ne_eqb _ _ c.if-b-eq46.false, d) at (rw (drop-cons part l.i 0 h) at l.invariant.2)
 
 pub push-x-requires : goal.push-x-requires
 push-x-requires c =
-    (omega arith, sym c.is_digit.ensures ∙ not-false _ c.if-not-is_digit.false-raw)
+    (omega arith, sym c.is_digit.ensures ∙ c.if-not-is_digit.false)
 
 pub returns-then-x-gt-MOST : goal.returns-then-x-gt-MOST
 returns-then-x-gt-MOST c =
     let part = c.args.part.now in
     let l = c.loop-i in
     let h : l.i < length part = omega arith in
-    let d = sym c.is_digit.ensures ∙ not-false _ c.if-not-is_digit.false-raw in
+    let d = sym c.is_digit.ensures ∙ c.if-not-is_digit.false in
     let m = lt-leb _ _ (rw c.push-x.ensures at c.if-x-gt-MOST.true) in
     simp (ne_eqb _ _ c.if-b-eq46.false, d, m) at (rw (drop-cons part l.i 0 h) at l.invariant.2)
 
@@ -67,7 +67,7 @@ loop-i-preserved c =
     let part = c.args.part.now in
     let l = c.loop-i in
     let h : l.i < length part = omega arith in
-    let d = sym c.is_digit.ensures ∙ not-false _ c.if-not-is_digit.false-raw in
+    let d = sym c.is_digit.ensures ∙ c.if-not-is_digit.false in
     let m = le-leb _ _ (rw c.push-x.ensures at c.if-x-gt-MOST.false) in (
       omega arith,
       omega arith,
