@@ -1,0 +1,36 @@
+-- `entry::order::common` meets its contract: the names go together as far as the loop came.
+use Prim.Native.Nat.{ℕ, ◌-◌, ◌≤◌, ◌<◌}
+use mathlib.Core.Path.{◌≡◌}
+use borrow.Author.Count.{below_none, below_more}
+use borrow.Author.Rules.{rules}
+use native.Mathlib.Omega.{arith}
+use lib.ListN.{length, get_or}
+use Rattle.entry.proofs.Common.{meets}
+use Rattle.entry.proofs.order.common.Goals as goal
+
+pub loop-i-init : goal.loop-i-init
+loop-i-init c =
+    (omega arith, omega arith, below_none _)
+
+pub returns-then-b-i : goal.returns-then-b-i
+returns-then-b-i c =
+    let a = c.args in
+    let l = c.loop-i in
+    meets a.a.now a.b.now l.i (omega arith) (omega arith) l.invariant.2 (λ p q e. omega arith)
+
+pub returns-then-a-i : goal.returns-then-a-i
+returns-then-a-i c =
+    let a = c.args in
+    let l = c.loop-i in
+    meets a.a.now a.b.now l.i (omega arith) (omega arith) l.invariant.2 (λ p q e. c.if-a-i.true e)
+
+pub loop-i-preserved : goal.loop-i-preserved
+loop-i-preserved c =
+    let l = c.loop-i in
+    (omega arith, omega arith, below_more _ _ l.invariant.2 c.if-a-i.false)
+
+pub returns : goal.returns
+returns c =
+    let a = c.args in
+    let l = c.loop-i in
+    meets a.a.now a.b.now l.i (omega arith) (omega arith) l.invariant.2 (λ p q e. omega arith)
