@@ -1,7 +1,6 @@
 -- `word::by_stretches` meets its contract: turn by turn the node is that of the bytes passed, and at the end it is the word or none.
 use Prim.Native.Nat.{◌+◌, ◌-◌, ◌*◌, min}
 use mathlib.Core.Path.{◌≡◌, refl, sym, ap, ◌∙◌}
-use borrow.Author.Rules.{rules}
 use native.Mathlib.Omega.{arith}
 use lib.ListN.{length, take, drop}
 use lib.Seq.{take_all}
@@ -9,7 +8,7 @@ use Rattle.word.specs.Words.{keys, values, words, upper, same, first_where}
 use Rattle.word.specs.Lookup.{stems, nodes, node_of, marked, next_of}
 use Rattle.word.proofs.Words.{upper_length, upper_take, upper_drop}
 use Rattle.word.proofs.Lead.{is_word, word_here}
-use Rattle.word.proofs.Turn.{Led, upper_bytes, on, over}
+use Rattle.word.proofs.Turn.{upper_bytes, on, over}
 use Rattle.word.proofs.by_stretches.Goals as goal
 
 -- the stretch ends at the place of the raised bytes

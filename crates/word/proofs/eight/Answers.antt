@@ -1,5 +1,4 @@
 -- `word::eight` meets its contract: the number of eight bytes is that of four and of four more.
-use borrow.Author.Rules.{rules}
 use native.Mathlib.Omega.{arith}
 use Rattle.word.proofs.Masks.{eight_bytes}
 use Rattle.word.proofs.eight.Goals as goal

@@ -1,7 +1,6 @@
 -- `word::follow` meets its contract: what leads to a node as it is written is in upper case already.
 use Prim.Native.Nat.{◌+◌, ◌-◌, ◌*◌}
 use mathlib.Core.Path.{◌≡◌, sym, ap, ◌∙◌}
-use borrow.Author.Rules.{rules}
 use native.Mathlib.Omega.{arith}
 use lib.ListN.{take, drop}
 use Rattle.little.proofs.Laws.{take_bytes, drop_bytes}

@@ -1,5 +1,4 @@
 -- `word::four` meets its contract: the number of four bytes is their sum, each by its weight.
-use borrow.Author.Rules.{rules}
 use native.Mathlib.Omega.{arith}
 use Rattle.word.proofs.Masks.{four_bytes}
 use Rattle.word.proofs.four.Goals as goal

@@ -1,5 +1,4 @@
 -- `word::low_bytes` meets its contract: the mask has eight bits for each byte.
-use borrow.Author.Rules.{rules}
 use native.Mathlib.Omega.{arith}
 use lib.ListN.{drop}
 use Rattle.little.proofs.Laws.{drop_bytes}

@@ -1,5 +1,4 @@
 -- `word::part` meets its contract: within the text it is the part, and what reaches outside is cut there.
-use borrow.Author.Rules.{rules}
 use native.Mathlib.Omega.{arith}
 use Rattle.word.proofs.Masks.{outside, cut, turned}
 use Rattle.word.proofs.part.Goals as goal

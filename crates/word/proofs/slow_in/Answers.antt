@@ -1,6 +1,5 @@
 -- `word::slow_in` meets its contract: the word is that of the part.
 use mathlib.Core.Path.{ap, ◌∙◌}
-use borrow.Author.Rules.{rules}
 use Rattle.word.specs.Words.{word_of}
 use Rattle.word.proofs.slow_in.Goals as goal
 

@@ -1,10 +1,7 @@
 -- `word::stretch` meets its contract: the sum is that of the bytes passed, the last first.
-use Prim.Native.Nat.{◌-◌, ◌*◌, ◌^◌, ◌≤◌, ◌<◌}
+use Prim.Native.Nat.{◌-◌, ◌≤◌, ◌<◌}
 use mathlib.Core.Path.{◌≡◌, sym}
-use borrow.Author.Rules.{rules}
 use native.Mathlib.Omega.{arith}
-use lib.ListN.{take, drop}
-use Rattle.word.specs.Lookup.{marked, cased}
 use Rattle.word.proofs.Marked.{no_bytes, earlier, wider, five, six}
 use Rattle.word.proofs.stretch.Goals as goal
 

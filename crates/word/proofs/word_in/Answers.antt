@@ -1,6 +1,5 @@
 -- `word::word_in` meets its contract: where the letters of the word in the slot are the span's bytes, the span spells it, whatever slot it is.
 use mathlib.Core.Path.{sym, ap, ◌∙◌}
-use borrow.Author.Rules.{rules}
 use borrow.Author.Tests.{eqb-true, eqb-false, not-true}
 use native.Mathlib.Omega.{arith}
 use Rattle.word.specs.Words.{keys, values, words, upper, same, first_where, word_of}

@@ -1,6 +1,5 @@
 -- `word::codes::at` meets its contract: past the end there is 0.
 use mathlib.Core.Path.{sym}
-use borrow.Author.Rules.{rules}
 use lib.ListN.{get_or-eq_default}
 use Rattle.word.proofs.codes.at.Goals as goal
 

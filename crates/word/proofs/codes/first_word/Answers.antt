@@ -1,5 +1,4 @@
 -- `word::codes::first_word` meets its contract: the value of a code c is the c-th pair of the list.
-use borrow.Author.Rules.{rules}
 use borrow.Author.Tests.{eq-eqb, ne_eqb}
 use Rattle.word.specs.Spelling.{first_of}
 use Rattle.word.proofs.codes.first_word.Goals as goal

@@ -1,9 +1,6 @@
 -- `word::codes::place` meets its contract: the place in what is left, counted on, is the place in the whole.
-use Prim.Native.Nat.{◌+◌, ◌-◌, ◌≤◌}
-use mathlib.Core.Path.{◌≡◌, refl, sym, ◌∙◌}
+use mathlib.Core.Path.{refl, sym, ◌∙◌}
 use native.Mathlib.Omega.{arith}
-use lib.ListN.{length, drop}
-use Rattle.word.specs.Codes.{place_of}
 use Rattle.word.proofs.Values.{here, later, nowhere}
 use Rattle.word.proofs.codes.place.Goals as goal
 

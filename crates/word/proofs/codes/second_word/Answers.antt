@@ -1,5 +1,4 @@
 -- `word::codes::second_word` meets its contract: the value of a code c is the c-th pair of the list.
-use borrow.Author.Rules.{rules}
 use borrow.Author.Tests.{eq-eqb, ne_eqb}
 use Rattle.word.specs.Spelling.{second_of}
 use Rattle.word.proofs.codes.second_word.Goals as goal

@@ -106,4 +106,4 @@ returns-in-100 c =
 pub returns-in_default : goal.returns-in_default
 unfolding keys values words spelling number
 returns-in_default c =
-    no_word what listed refl refl _ c.in-14.rest
+    no_word what listed refl refl _ c.in_default.in_default-own.rest

@@ -777,4 +777,4 @@ returns-in-91573174974694912 c =
 pub returns-in_default : goal.returns-in_default
 unfolding keyed place_in next_of
 returns-in_default c =
-    nowhere _ 1 keyed c.in-88421.rest
+    nowhere _ 1 keyed c.in_default.in_default-own.rest

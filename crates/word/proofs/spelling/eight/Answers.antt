@@ -1,5 +1,4 @@
 -- `word::spelling::eight` meets its contract: no word has a fifth eight.
-use borrow.Author.Rules.{rules}
 use Rattle.word.proofs.Spelt.{at_part, no_part}
 use Rattle.word.proofs.spelling.eight.Goals as goal
 
@@ -21,4 +20,4 @@ returns-in-3 c =
 
 pub returns-in_default : goal.returns-in_default
 returns-in_default c =
-    let r = c.in-0.rest in no_part _ _ r.0.0.0.1 r.0.0.1 r.0.1 r.1
+    let r = c.in_default.in_default-own.rest in no_part _ _ r.0.0.0.1 r.0.0.1 r.0.1 r.1
