@@ -390,6 +390,7 @@ def convert(crate, folder, info):
         var = params[0] if params else "c"
         place = asked.get(need[1]) if need else None
         term = t.body(term, var, place, helpers)
+        term = re.sub(r"(?<=\.)in-[\w]+\.rest\b", "in_default.in_default-own.rest", term)
         name = need[1] if need else "UNKNOWN"
         cl = info["asked"].get(need[0]) if need else None
         if cl:

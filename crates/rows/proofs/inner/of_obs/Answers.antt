@@ -6,19 +6,24 @@ use Rattle.grammar.specs.Grammar.{Obs}
 use Rattle.grammar.specs.Table.{body}
 use Rattle.rows.specs.Packed.{nth, key_at, item_at, kinds_in, kinds_of, items_in, items_of, block_of, move_of, plain, act_of, rows_of}
 use Rattle.rows.proofs.Laws.{words_in, arm, rest}
-use Rattle.rows.proofs.inner.of_obs.Statement.{statement}
-use Rattle.rows.proofs.inner.of_obs.Tie as tie
+use Rattle.rows.proofs.inner.of_obs.Goals as goal
 
 -- the words of an OBS, by number
 numbers : words_in (rows_of (body Obs)) ≡ 13 ∷ 9 ∷ []
 unfolding keys values words raised upper same first_where word_of
 numbers = refl
 
-pub of_obs_spec : {M : Type 1} → statement M
+pub returns-in-13 : goal.returns-in-13
 unfolding keys nth key_at item_at kinds_in kinds_of items_in items_of block_of move_of plain act_of
-of_obs_spec =
-    tie.close
-    (tie.spec
-    (λ c. arm _ _ numbers _ c.match.keys1 refl)
-    (λ c. arm _ _ numbers _ c.match.keys2 refl)
-    (λ c. rest _ _ numbers _ c.match.rest refl))
+returns-in-13 c =
+    arm _ _ numbers _ c.in-13.is refl
+
+pub returns-in-9 : goal.returns-in-9
+unfolding keys nth key_at item_at kinds_in kinds_of items_in items_of block_of move_of plain act_of
+returns-in-9 c =
+    arm _ _ numbers _ c.in-9.is refl
+
+pub returns-in_default : goal.returns-in_default
+unfolding keys nth key_at item_at kinds_in kinds_of items_in items_of block_of move_of plain act_of
+returns-in_default c =
+    rest _ _ numbers _ c.in_default.in_default-own.rest refl

@@ -4,13 +4,13 @@ use Rattle.grammar.specs.Grammar.{Block, Layer}
 use Rattle.grammar.specs.Table.{body}
 use Rattle.grammar.proofs.Blocks.{alike}
 use Rattle.rows.specs.Packed.{block_of, next_of, after_in}
-use Rattle.rows.proofs.after_options.Statement.{statement}
-use Rattle.rows.proofs.after_options.Tie as tie
+use Rattle.rows.proofs.after_options.Goals as goal
 
 always : (b : Block) → Layer ≡ next_of (body b)
 unfolding next_of
 always = alike (λ b. Layer) (λ b. next_of (body b)) refl
 
-pub after_options_spec : {M : Type 1} → statement M
+pub returns : goal.returns
 unfolding block_of after_in
-after_options_spec = tie.close (tie.spec (λ c. always (block_of c.args.block)))
+returns c =
+    always (block_of c.args.block)
