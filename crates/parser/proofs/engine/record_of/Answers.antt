@@ -1,0 +1,25 @@
+-- `parser::engine::record_of` meets its contract: the owner, and the bytes of the name that the text has.
+use Prim.Native.Nat.{◌+◌}
+use mathlib.Core.Path.{◌≡◌}
+use mathlib.Core.List.{[]}
+use native.Mathlib.Omega.{arith}
+use borrow.Author.Rules.{rules}
+use Rattle.parser.proofs.engine.record_of.Goals as goal
+
+pub owner_of-requires : goal.owner_of-requires
+owner_of-requires c =
+    tt
+
+pub within-requires : goal.within-requires
+within-requires c =
+    tt
+
+pub of-requires : goal.of-requires
+of-requires c =
+    tt
+
+pub returns : goal.returns
+returns c =
+    let g = c.args in
+    let n : g.d.name + 0 ≡ g.d.name = omega arith in
+    rw (c.of.ensures, c.within.ensures, c.owner_of.ensures [], n)

@@ -1,0 +1,15 @@
+-- `parser::words::code_of_two` meets its contract: by the test of the second word.
+use borrow.Author.Tests.{eq-eqb, ne_eqb}
+use Rattle.parser.proofs.words.code_of_two.Goals as goal
+
+pub returns-then-v-eq0 : goal.returns-then-v-eq0
+returns-then-v-eq0 c =
+    rw (eq-eqb _ _ c.if-v-eq0.true)
+
+pub code_of-requires : goal.code_of-requires
+code_of-requires c =
+    tt
+
+pub returns : goal.returns
+returns c =
+    rw (ne_eqb _ _ c.if-v-eq0.false, c.code_of.ensures)
