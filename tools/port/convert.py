@@ -385,7 +385,7 @@ def convert(crate, folder, info):
                 report.append(f"answer {a[:40]}?")
                 continue
             params, term = m.group(1).split(), m.group(2)
-        if term.strip() in ("search rules",):
+        if term.strip() in ("search rules", "tt") or (need and re.match(r"enum_(known|told)-", need[1])):
             continue
         var = params[0] if params else "c"
         place = asked.get(need[1]) if need else None

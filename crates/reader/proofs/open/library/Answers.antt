@@ -2,9 +2,9 @@
 use mathlib.Core.Path.{refl}
 use Rattle.rows.specs.Packed.{block_of, kinds_in, kinds_of}
 use Rattle.reader.specs.Open.{frames_in}
-use Rattle.reader.proofs.open.library.Statement.{statement}
-use Rattle.reader.proofs.open.library.Tie as tie
+use Rattle.reader.proofs.open.library.Goals as goal
 
-pub library_spec : {M : Type 1} → statement M
+pub returns : goal.returns
 unfolding block_of kinds_in kinds_of frames_in
-library_spec = tie.close (tie.spec (λ c s o. refl))
+returns c s o =
+    refl

@@ -1,0 +1,19 @@
+-- `reader::pass::pass` meets its contract: every turn keeps what is read in all, and takes a token or leaves a block.
+use Prim.Native.Nat.{◌≤◌}
+use mathlib.Core.Path.{◌≡◌, refl, ◌∙◌}
+use native.Mathlib.Omega.{arith}
+use borrow.Author.Rules.{rules}
+use lib.ListN.{length}
+use Rattle.file.proofs.Laws.{stored_length}
+use Rattle.reader.specs.Passed.{Further}
+use Rattle.reader.proofs.Turning.{now, sound_depth}
+use Rattle.reader.proofs.Tally.{left, none_yet, one_more, no_more, over, refused}
+use Rattle.reader.proofs.Steps.{room, emits, ends, backs, lasts, back_lasts, goes, stops}
+use Rattle.reader.proofs.pass.pass.Given as goal
+
+-- the records so far, at most as many as are asked for; the file's length, and the array's
+abbrev pub invariant-loop-n : goal.invariant-loop-n
+invariant-loop-n l = Further l.text (now l.initial.held l.initial.open l.initial.outer) l.initial.file l.n (now l.held l.«open» l.outer) l.file × (l.n ≤ l.most) × (length l.file ≡ length l.initial.file) × (length l.outer ≡ 25)
+
+abbrev pub decreases-loop-n : goal.decreases-loop-n
+decreases-loop-n l = left l.text l.held l.«open».depth
