@@ -1,0 +1,16 @@
+-- `stretches` meets its contract: each pass gives the next records, and the run says how far the file has them.
+use mathlib.Core.Path.{◌≡◌, refl, ap, ◌∙◌}
+use borrow.Author.Rules.{rules}
+use native.Mathlib.Omega.{arith}
+use lib.ListN.{length}
+use Rattle.parser.specs.Code.{rest_of}
+use Rattle.checker.specs.Passing.{stretch}
+use Rattle.checker.proofs.Laying.{laid_length}
+use Rattle.checker.proofs.Following.{So, so_start, so_next, so_last, so_refused, went_on, went_over, went_wrong}
+use Rattle.checker.proofs.order.stretches.Given as goal
+
+abbrev pub invariant-loop-refusal : goal.invariant-loop-refusal
+invariant-loop-refusal l = So l.text l.initial.st l.file l.st l.run × (length l.w ≡ length l.initial.w)
+
+abbrev pub decreases-loop-refusal : goal.decreases-loop-refusal
+decreases-loop-refusal l = length (rest_of l.text l.st.held)
