@@ -1,12 +1,12 @@
 -- How a block ends: END by its row of the table, or the `;` of its line.
 use Prim.Native.Nat.{ℕ, ◌-◌, ◌*◌, ◌/◌, ◌%◌, ◌≤◌, ◌<◌}
-use mathlib.Core.Path.{◌≡◌, refl, sym, ap, ◌∙◌}
+use mathlib.Core.Path.{◌≡◌, refl, sym, ◌∙◌}
 use mathlib.Core.Bool.{Bool, true, false, cond}
 use mathlib.Core.List.{List, [], ◌∷◌, ◌++◌, append-nil}
 use native.Mathlib.Omega.{arith}
-use borrow.Author.Tests.{eqb-true, eqb-false, eq-eqb, ne_eqb, le-leb, lt-leb, leb-true, leb-false}
+use borrow.Author.Tests.{ne_eqb, le-leb, leb-false}
 use lib.Dec.{eqb, leb, ltb}
-use lib.ListN.{length, replicate}
+use lib.ListN.{replicate}
 use Rattle.word.specs.Words.{keys, values, words, raised, upper, same, first_where, word_of}
 use Rattle.word.specs.Spelling.{spelling}
 use Rattle.grammar.specs.Grammar.{Block, Act, statement, close, refuse, back, up_to54, Body, keyed, worded, options, parts, counted}
@@ -17,8 +17,8 @@ use Rattle.grammar.proofs.Blocks.{alike}
 use Rattle.rows.specs.Packed.{items_of, move_of, plain, act_of, look_up, form_of, next_of}
 use Rattle.render.specs.Pieces.{Said, Piece, newline, text}
 use Rattle.render.specs.Says.{word}
-use Rattle.render.specs.Forms.{Close, close_of, last_words, nobody}
-use Rattle.render.specs.Lines.{spaced, indented, line, line_end, settled_by, settling, ending, closing}
+use Rattle.render.specs.Forms.{Close, close_of, last_words}
+use Rattle.render.specs.Lines.{spaced, indented, line, line_end, settled_by, settling, ending}
 use Rattle.lines.specs.Put.{Put}
 use Rattle.lines.proofs.Laws.{put_as, put_then}
 use Rattle.lines.proofs.Pieced.{pieces_then, line_ends}

@@ -2,12 +2,12 @@
 use Prim.Native.Nat.{ℕ, ◌+◌, ◌-◌, ◌/◌, ◌%◌, ◌^◌, ◌≤◌, ◌<◌}
 use mathlib.Core.Path.{◌≡◌, refl, sym, ap, ◌∙◌}
 use mathlib.Core.Bool.{Bool, true, false, cond, ◌&&◌, ◌||◌}
-use mathlib.Core.List.{List, [], ◌∷◌}
+use mathlib.Core.List.{List, ◌∷◌}
 use native.Mathlib.Decide.{dec_lt}
 use native.Mathlib.Omega.{arith}
 use borrow.Author.Tests.{eqb-true, eqb-false, eq-eqb, ne_eqb, lt-ltb, le-ltb, le-leb, lt-leb}
 use lib.Dec.{eqb, leb, ltb}
-use Rattle.grammar.specs.Grammar.{Item, Act, statement, close, refuse, back, up_to54}
+use Rattle.grammar.specs.Grammar.{Item, statement, close, refuse, back, up_to54}
 use Rattle.grammar.specs.Engine.{Maybe, none, some}
 use Rattle.rows.specs.Packed.{item_at, items_of, move_of, plain, act_of}
 use Rattle.rows.proofs.Unpack.{split, no_items}

@@ -9,12 +9,12 @@ use borrow.Author.Tests.{ne_eqb, ltb-false, leb-true, leb-false, le-ltb}
 use lib.Dec.{eqb, leb, ltb}
 use Rattle.word.proofs.Words.{clash}
 use lib.ListN.{take, drop}
-use Rattle.grammar.specs.Grammar.{Item, code, if_more, whole, among}
+use Rattle.grammar.specs.Grammar.{Item, among}
 use Rattle.grammar.specs.Table.{versions, microns}
 use Rattle.rows.specs.Packed.{item_at, items_of}
 use Rattle.rows.proofs.Unpack.{split, no_items}
 use Rattle.rows.proofs.Ranges.{at_code, at_more, at_whole, at_among, at_low, choose, all_low, all_high}
-use Rattle.render.specs.Pieces.{Said, Piece, text}
+use Rattle.render.specs.Pieces.{Said, text}
 use Rattle.render.specs.Plain.{Plain}
 use Rattle.render.specs.Says.{says, shows, any, omitted, says_all}
 use Rattle.render.specs.Lines.{spaced}

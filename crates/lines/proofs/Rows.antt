@@ -11,7 +11,7 @@ use lib.Dec.{eqb}
 use Rattle.word.specs.Words.{word}
 use Rattle.word.proofs.Words.{clash, both}
 use Rattle.grammar.specs.Grammar.{Item, key, keyword, name, own, x, y, semi, value, first, first_key, second, string, code, if_more, no_name, among, whole, Act, statement, close, refuse, back, up_to54, Row, Body, keyed, worded, options, parts, counted}
-use Rattle.grammar.specs.Engine.{Maybe, none, some, member}
+use Rattle.grammar.specs.Engine.{none, some, member}
 use Rattle.grammar.specs.Turns.{act_for}
 use Rattle.rows.specs.Packed.{look_up, form_of, part_of, rows_of, coded, word_of_kind}
 use Rattle.rows.proofs.Laws.{words_in}

@@ -2,23 +2,23 @@
 use Prim.Native.Nat.{ℕ, ◌*◌, ◌/◌, ◌%◌, ◌≤◌}
 use Prim.Native.String.{String}
 use mathlib.Core.Path.{◌≡◌, refl, sym, ap, ◌∙◌}
-use mathlib.Core.Bool.{Bool, true, false, cond, ◌&&◌, ◌||◌}
-use mathlib.Core.List.{List, [], ◌∷◌, ◌++◌, append_assoc, append-nil}
-use borrow.Author.Tests.{ne_eqb, eqb-true, eqb-false}
+use mathlib.Core.Bool.{Bool, true, false, cond, ◌||◌}
+use mathlib.Core.List.{List, [], ◌∷◌, ◌++◌, append-nil}
+use borrow.Author.Tests.{ne_eqb, eqb-true}
 use lib.Dec.{eqb, leb}
 use lib.ListN.{replicate}
 use Rattle.word.specs.Spelling.{spelling}
 use Rattle.word.proofs.Words.{clash}
-use Rattle.grammar.specs.Grammar.{Move, stay, enter, named, version, Act, statement, close, refuse, back, up_to54, Row, Body, keyed, worded, options, parts, counted}
+use Rattle.grammar.specs.Grammar.{stay, enter, named, version, Act, statement, close, refuse, back, up_to54, Row, Body, keyed, worded, options, parts, counted}
 use Rattle.grammar.specs.Table.{body}
-use Rattle.grammar.specs.Engine.{Maybe, none, some, Frame}
+use Rattle.grammar.specs.Engine.{some, Frame}
 use Rattle.rows.specs.Packed.{block_of, kinds_of, move_of, form_of}
 use Rattle.render.specs.Pieces.{Said, Piece, spaces, newline, token, text}
 use Rattle.render.specs.Spelt.{all}
 use Rattle.render.specs.Plain.{Plain}
 use Rattle.render.specs.Says.{word}
 use Rattle.render.specs.Forms.{Form, forms_of, row_forms, forms_in, form_for, begins}
-use Rattle.render.specs.Lines.{spaced, indented, on_line, form_in, goes_on}
+use Rattle.render.specs.Lines.{spaced, indented, on_line, goes_on}
 use Rattle.render.proofs.Appended.{text_append}
 use Rattle.render.proofs.Forms.{form_passes}
 use Rattle.lines.specs.Put.{greatest, Put}
