@@ -1,0 +1,30 @@
+-- `indexer::check_accepted` meets its contract: the position is where the index differs, and that is nowhere where both end there.
+use mathlib.Core.Path.{sym, ◌∙◌}
+use borrow.Author.Rules.{rules}
+use mathlib.Core.Logic.{⊎_elim}
+use Rattle.index.proofs.Laws.{apart_held}
+use Rattle.indexer.proofs.Consulting.{same_index, other_index}
+use Rattle.indexer.proofs.check_accepted.Goals as goal
+
+pub differ-position-requires : goal.differ-position-requires
+differ-position-requires c =
+    let s = c in
+    apart_held s.args.text.now s.args.records.now s.requires.0
+
+pub returns-then-position-entered_in : goal.returns-then-position-entered_in
+returns-then-position-entered_in c =
+    let s = c in
+    let a = s.args in
+    let p = c.differ-position in
+    c.done.ensures
+    ∙ same_index a.text.now a.records.now a.index.now s.requires.0 s.requires.1 p.result p.ensures
+    c.if-position-index.true (c.if-position-entered_in.true ∙ c.entered_in.ensures)
+
+pub returns : goal.returns
+returns c =
+    let s = c in
+    let a = s.args in
+    let p = c.differ-position in
+    c.index_differs.ensures
+    ∙ other_index a.text.now a.records.now a.index.now s.requires.0 s.requires.1 p.result p.ensures
+    (λ h k. ⊎_elim (λ w. w.2.left (k ∙ sym w.1.ensures)) (λ w. w.left h) c.if-position-index.branch)

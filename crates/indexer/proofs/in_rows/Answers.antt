@@ -1,0 +1,27 @@
+-- `indexer::in_rows` meets its contract: the two tests on the number and the one on the length are those of the definition.
+use Prim.Native.Nat.{◌%◌, ◌<◌}
+use mathlib.Core.Path.{◌≡◌, sym, ◌∙◌}
+use mathlib.Core.Logic.{⊎_elim}
+use native.Mathlib.Omega.{arith}
+use borrow.Author.Rules.{rules}
+use borrow.Author.Tests.{eq-eqb, ne_eqb}
+use lib.ListN.{length}
+use Rattle.indexer.proofs.Between.{early_first, late_last}
+use Rattle.indexer.proofs.in_rows.Goals as goal
+
+pub returns-then-number-lt-WRONG_RECORD : goal.returns-then-number-lt-WRONG_RECORD
+returns-then-number-lt-WRONG_RECORD c =
+    let a = c.args in
+    sym (early_first a.answer a.file.now a.width c.if-number-ne-DONE.true c.if-number-lt-WRONG_RECORD.true)
+
+pub returns-then-file-width-ne0 : goal.returns-then-file-width-ne0
+returns-then-file-width-ne0 c =
+    let a = c.args in
+    let late : a.answer.number < 14 → a.answer.number ≡ 0 = λ l. ⊎_elim (λ w. absurd (omega (arith, w.1.left))) (λ w. w.left) c.if-number-ne-DONE.branch in
+    c.not_whole.ensures ∙ sym (late_last a.answer a.file.now a.width late ∙ rw (ne_eqb (length a.file.now % a.width) 0 c.if-file-width-ne0.true))
+
+pub returns : goal.returns
+returns c =
+    let a = c.args in
+    let late : a.answer.number < 14 → a.answer.number ≡ 0 = λ l. ⊎_elim (λ w. absurd (omega (arith, w.1.left))) (λ w. w.left) c.if-number-ne-DONE.branch in
+    sym (late_last a.answer a.file.now a.width late ∙ rw (eq-eqb (length a.file.now % a.width) 0 c.if-file-width-ne0.false))

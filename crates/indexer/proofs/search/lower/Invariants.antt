@@ -1,0 +1,15 @@
+-- `lower` meets its contract: low and high bracket the answer.
+use Prim.Native.Nat.{◌-◌}
+use mathlib.Core.Path.{ap, sym, ◌∙◌}
+use borrow.Author.Rules.{rules}
+use native.Mathlib.Omega.{arith}
+use Rattle.entry.specs.Entries.{entry_in}
+use Rattle.entry.specs.Order.{key, key_of, before}
+use Rattle.indexer.proofs.Bracket.{Bracket, bracket_start, bracket_up, bracket_down, bracketed}
+use Rattle.indexer.proofs.search.lower.Given as goal
+
+abbrev pub invariant-loop-low : goal.invariant-loop-low
+invariant-loop-low l = Bracket l.text (entry_in l.index) l.n (key l.owner l.name l.at) l.low l.high
+
+abbrev pub decreases-loop-low : goal.decreases-loop-low
+decreases-loop-low l = l.high - l.low

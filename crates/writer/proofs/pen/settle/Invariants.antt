@@ -1,0 +1,22 @@
+-- `settle` meets its contract: only options are ended, by a record that has no form among them, and the block after them has none.
+use Prim.Native.Nat.{ℕ, ◌≤◌}
+use mathlib.Core.Path.{◌≡◌, refl, sym, ◌∙◌}
+use mathlib.Core.List.{List, []}
+use native.Mathlib.Omega.{arith}
+use borrow.Author.Rules.{rules}
+use lib.ListN.{length}
+use Rattle.parser.specs.Kept.{frame_of}
+use Rattle.render.specs.Plain.{bare}
+use Rattle.lines.specs.Put.{greatest}
+use Rattle.writer.specs.declared.pen.Taken.{Taken}
+use Rattle.writer.specs.Penned.{Settled}
+use Rattle.writer.proofs.Taking.{as_found, turns, fewer_turns, settled_formed, settled_other, settled_line}
+use Rattle.writer.proofs.pen.settle.Given as goal
+
+-- what settles the record from here settles it from the start
+abbrev pub invariant-loop-out : goal.invariant-loop-out
+invariant-loop-out l = (length l.out ≡ length l.initial.out) × (l.p ≤ greatest)
+    × ((s : List ℕ) (t : Taken) (exit : List ℕ) → Settled s «open» (bare s l.r) l.out l.p t exit → Settled s l.initial.open (bare s l.r) l.initial.out l.initial.p t exit)
+
+abbrev pub decreases-loop-out : goal.decreases-loop-out
+decreases-loop-out l = turns «open».inner.block
