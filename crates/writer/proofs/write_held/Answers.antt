@@ -34,5 +34,5 @@ returns c =
     let z = a.requires in
     let p = lines_from a.args.text.now a.args.start z.0 (held a.args.file.now) z.1 _ c.spread-outer.ensures c.write_last-n.ensures in
     let q = lines_from a.args.text.now a.args.start z.0 (held a.args.file.now) z.1 _ c.spread-outer-2.ensures c.write_last.ensures in
-    let y = written_whole a.args.text.now a.args.start z.0 (held a.args.file.now) z.1 _ _ _ p _ _ c.if-out-n.false (omega (arith, a.well-formed.1.1.1.0.0)) _ q in
+    let y = written_whole a.args.text.now a.args.start z.0 (held a.args.file.now) z.1 _ _ _ p _ _ c.if-out-n.false (omega (arith, a.well_formed.1.1.1.0.0)) _ q in
     (c.done.ensures ∙ y.0, y.1)

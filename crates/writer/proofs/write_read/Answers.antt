@@ -30,5 +30,5 @@ returns c =
     let a = c in
     let z = a.requires in
     let g = gives a.args.text.now a.args.start z.0 z.1.0 z.1.1 in
-    let y = written_whole a.args.text.now a.args.start z.0 z.1.0 z.1.1 _ _ _ (c.write_from-length.ensures z.1.0 g) _ _ c.if-out-length.false (omega (arith, a.well-formed.1.1.0.0)) _ (c.write_from.ensures z.1.0 g) in
+    let y = written_whole a.args.text.now a.args.start z.0 z.1.0 z.1.1 _ _ _ (c.write_from-length.ensures z.1.0 g) _ _ c.if-out-length.false (omega (arith, a.well_formed.1.1.0.0)) _ (c.write_from.ensures z.1.0 g) in
     (c.done.ensures ∙ y.0, y.1)

@@ -16,7 +16,7 @@ use Rattle.writer.proofs.pen.settle.Given as goal
 -- what settles the record from here settles it from the start
 abbrev pub invariant-loop-out : goal.invariant-loop-out
 invariant-loop-out l = (length l.out ≡ length l.initial.out) × (l.p ≤ greatest)
-    × ((s : List ℕ) (t : Taken) (exit : List ℕ) → Settled s «open» (bare s l.r) l.out l.p t exit → Settled s l.initial.open (bare s l.r) l.initial.out l.initial.p t exit)
+    × ((s : List ℕ) (t : Taken) (exit : List ℕ) → Settled s l.«open» (bare s l.r) l.out l.p t exit → Settled s l.initial.open (bare s l.r) l.initial.out l.initial.p t exit)
 
 abbrev pub decreases-loop-out : goal.decreases-loop-out
-decreases-loop-out l = turns «open».inner.block
+decreases-loop-out l = turns l.«open».inner.block

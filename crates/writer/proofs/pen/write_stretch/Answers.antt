@@ -37,7 +37,7 @@ write_record-p-requires c =
 pub overflow_add-k : goal.overflow_add-k
 overflow_add-k c =
     let s = c in
-    omega (arith, c.loop-k-test.true, s.requires.0, s.well-formed.1.1.1.0.0)
+    omega (arith, c.loop-k-test.true, s.requires.0, s.well_formed.1.1.1.0.0)
 
 pub loop-k-preserved : goal.loop-k-preserved
 loop-k-preserved c =
