@@ -44,7 +44,9 @@ index_in s (refusal_of r) = []
 
 -- the buffer of the index afterwards
 unfoldable pub filled : List ℕ → Reading → List ℕ → List ℕ → List ℕ
-filled s reading file buffer = leaves (built s reading file (count buffer)) (encoded_all (index_in s reading)) buffer
+filled s reading file buffer =
+    let bytes = encoded_all (index_in s reading) in
+    cond (eqb (built s reading file (count buffer)).number done) (bytes ++ drop (length bytes) buffer) buffer
 
 -- CHECKING
 
