@@ -1,5 +1,4 @@
 -- `indexer::build` meets its contract: a refusal of the records is its answer, and all else is that of an accepted file.
-use borrow.Author.Rules.{rules}
 use Rattle.indexer.proofs.Answering.{accepted_by, built_refused, filled_refused}
 use Rattle.entry.specs.Entries.{count}
 use Rattle.indexer.proofs.build.Goals as goal

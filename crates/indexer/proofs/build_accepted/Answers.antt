@@ -1,7 +1,6 @@
 -- `indexer::build_accepted` meets its contract: where there is room, what is filled in and sorted is the index of the reading.
 use Prim.Native.Nat.{◌/◌, ◌≤◌}
 use mathlib.Core.Path.{ap, ◌∙◌}
-use borrow.Author.Rules.{rules}
 use lib.ListN.{length}
 use Rattle.refusal.specs.Table.{refused, record_room}
 use Rattle.file.specs.File.{held}
@@ -22,7 +21,7 @@ slice_bounds-sort-end-2 c =
     let a = c.args in
     let n = c.entered_in-n in
     let f = c.fill in
-    front_there (entries (held a.records.now)) a.index.now n.result n.ensures f.new.1.0 f.ensures
+    front_there (entries (held a.records.now)) a.index.now n.result n.ensures f.new.index f.ensures
 
 pub returns : goal.returns
 returns c =
@@ -32,5 +31,5 @@ returns c =
     let f = c.fill in
     let o = c.sort in
     let fits : n.result ≤ length a.index.now / 16 = c.if-index-n.false in
-    let r = sorted_front a.text.now a.records.now s.requires a.index.now n.result n.ensures fits f.new.1.0 f.ensures o.new.1.0 o.ensures in
+    let r = sorted_front a.text.now a.records.now s.requires a.index.now n.result n.ensures fits f.new.index f.ensures o.new.file o.ensures in
     record { value = c.done.ensures ∙ r.0; index_after = r.1 }

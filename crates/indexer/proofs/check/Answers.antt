@@ -1,5 +1,4 @@
 -- `indexer::check` meets its contract: 13 for the index comes between those of checking the records, and behind them the index is looked at.
-use borrow.Author.Rules.{rules}
 use Rattle.indexer.proofs.Answering.{accepted_by}
 use Rattle.indexer.proofs.Between.{check_refused, check_passed}
 use Rattle.indexer.proofs.check.Goals as goal

@@ -1,10 +1,9 @@
 -- `indexer::check_accepted` meets its contract: the position is where the index differs, and that is nowhere where both end there.
 use mathlib.Core.Path.{sym, ◌∙◌}
-use borrow.Author.Rules.{rules}
-use mathlib.Core.Logic.{⊎_elim}
 use Rattle.index.proofs.Laws.{apart_held}
 use Rattle.indexer.proofs.Consulting.{same_index, other_index}
 use Rattle.indexer.proofs.check_accepted.Goals as goal
+use Rattle.indexer.proofs.check_accepted.Goals.{then-position-index+else-position-entered_in, else-position-index}
 
 pub differ-position-requires : goal.differ-position-requires
 differ-position-requires c =
@@ -27,4 +26,4 @@ returns c =
     let p = c.differ-position in
     c.index_differs.ensures
     ∙ other_index a.text.now a.records.now a.index.now s.requires.0 s.requires.1 p.result p.ensures
-    (λ h k. ⊎_elim (λ w. w.2.left (k ∙ sym w.1.ensures)) (λ w. w.left h) c.if-position-index.branch)
+    (λ h k. elim c.if-position-index.branch [ then-position-index+else-position-entered_in w ↦ w.if-position-entered_in.false (k ∙ sym w.entered_in.ensures) | else-position-index w ↦ w.if-position-index.false h ])

@@ -1,5 +1,4 @@
 -- `indexer::find` meets its contract: an index that is accepted rises, and what is sought in it is that of the reading.
-use borrow.Author.Rules.{rules}
 use Rattle.indexer.proofs.Finding.{find_refused, index_climbs, find_found}
 use Rattle.indexer.proofs.find.Goals as goal
 

@@ -1,6 +1,5 @@
 -- `indexer::find_many` meets its contract: 13 for the queries comes between those of checking the index, 11 last, and then nothing is refused any more.
 use mathlib.Core.Path.{◌∙◌}
-use borrow.Author.Rules.{rules}
 use Rattle.index.proofs.Looked.{consulted_held}
 use Rattle.indexer.proofs.Asking.{many_refused, many_consulted, many_no_room, many_answered}
 use Rattle.indexer.proofs.find_many.Goals as goal

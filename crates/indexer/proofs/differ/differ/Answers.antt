@@ -1,6 +1,5 @@
 -- `differ` meets its contract: what is met of the records, and how far the counts agree, say where the index first differs.
 use mathlib.Core.Path.{◌∙◌}
-use borrow.Author.Rules.{rules}
 use Rattle.file.specs.File.{held}
 use Rattle.index.specs.Index.{entries}
 use Rattle.indexer.proofs.Deciding.{differs_at_once, differs_later}

@@ -1,9 +1,7 @@
 -- `meet` meets its contract: so far it is met what there is of the records passed.
-use Prim.Native.Nat.{◌-◌, ◌/◌, ◌≤◌}
+use Prim.Native.Nat.{◌/◌}
 use mathlib.Core.Path.{◌≡◌, sym, subst}
-use mathlib.Core.Logic.{⊎_elim}
 use mathlib.Core.Bool.{true}
-use borrow.Author.Rules.{rules}
 use native.Mathlib.Omega.{arith}
 use lib.ListN.{length}
 use Rattle.entry.specs.Entries.{entry_in}
@@ -12,6 +10,7 @@ use Rattle.indexer.proofs.Filling.{passed, passed_none}
 use Rattle.indexer.proofs.Meetings.{meeting_none}
 use Rattle.indexer.proofs.Passing.{met_entered, met_other}
 use Rattle.indexer.proofs.differ.meet.Goals as goal
+use Rattle.indexer.proofs.differ.meet.Goals.{then-is_entered, else-is_entered}
 
 pub loop-i-init : goal.loop-i-init
 loop-i-init c =
@@ -24,11 +23,11 @@ loop-i-preserved c =
     let l = c.loop-i in
     let is = c.is_entered in (
       omega arith,
-      ⊎_elim
-          (λ w. rw w.3 (met_entered a.records.now l.i is.result is.ensures a.text.now (entry_in a.index.now) a.n l.met l.invariant.1
-          w.0.taken w.1.result w.1.ensures.0 w.2.result w.2.ensures))
-          (λ w. rw w.1 (met_other a.records.now l.i is.result is.ensures a.text.now (entry_in a.index.now) a.n l.met l.invariant.1 w.0.left))
-          c.if-is_entered.branch,
+      elim c.if-is_entered.branch [
+        | then-is_entered w ↦ rw w.met-is (met_entered a.records.now l.i is.result is.ensures a.text.now (entry_in a.index.now) a.n l.met l.invariant.1
+            w.if-is_entered.true w.entry_of.result w.entry_of.ensures.of w.met_after-met.result w.met_after-met.ensures)
+        | else-is_entered w ↦ rw w.met-is (met_other a.records.now l.i is.result is.ensures a.text.now (entry_in a.index.now) a.n l.met l.invariant.1 w.if-is_entered.false)
+      ],
     )
 
 pub returns : goal.returns

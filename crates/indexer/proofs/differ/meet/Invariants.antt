@@ -1,16 +1,9 @@
 -- `meet` meets its contract: so far it is met what there is of the records passed.
 use Prim.Native.Nat.{◌-◌, ◌/◌, ◌≤◌}
-use mathlib.Core.Path.{◌≡◌, sym, subst}
-use mathlib.Core.Logic.{⊎_elim}
-use mathlib.Core.Bool.{true}
-use borrow.Author.Rules.{rules}
-use native.Mathlib.Omega.{arith}
 use lib.ListN.{length}
 use Rattle.entry.specs.Entries.{entry_in}
 use Rattle.indexer.specs.Inner.{Meeting}
-use Rattle.indexer.proofs.Filling.{passed, passed_none}
-use Rattle.indexer.proofs.Meetings.{meeting_none}
-use Rattle.indexer.proofs.Passing.{met_entered, met_other}
+use Rattle.indexer.proofs.Filling.{passed}
 use Rattle.indexer.proofs.differ.meet.Given as goal
 
 abbrev pub invariant-loop-i : goal.invariant-loop-i

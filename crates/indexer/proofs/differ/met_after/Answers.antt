@@ -1,7 +1,6 @@
 -- `met_after` meets its contract: an entry that is not where its key would stand is nowhere.
 use mathlib.Core.Path.{refl, subst}
 use mathlib.Core.Logic.{inl, inr}
-use borrow.Author.Rules.{rules}
 use Rattle.entry.specs.Entries.{entry_in}
 use Rattle.entry.specs.Order.{key}
 use Rattle.indexer.specs.Inner.{Lower}

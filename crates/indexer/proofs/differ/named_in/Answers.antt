@@ -1,8 +1,6 @@
 -- `named_in` meets its contract: so far the sum is that of the records passed, or the largest number.
-use Prim.Native.Nat.{◌+◌, ◌-◌, ◌/◌, ◌≤◌}
+use Prim.Native.Nat.{◌+◌, ◌/◌}
 use mathlib.Core.Path.{◌≡◌, subst, sym}
-use mathlib.Core.Logic.{⊎_elim}
-use borrow.Author.Rules.{rules}
 use native.Mathlib.Omega.{arith}
 use lib.ListN.{length}
 use Rattle.ordered.specs.Counted.{total}
@@ -10,6 +8,7 @@ use Rattle.indexer.specs.Inner.{len, Weighs}
 use Rattle.indexer.proofs.Filling.{passed}
 use Rattle.indexer.proofs.Passing.{weighs_first, weighs_entered, weighs_other}
 use Rattle.indexer.proofs.differ.named_in.Goals as goal
+use Rattle.indexer.proofs.differ.named_in.Goals.{then-is_entered, else-is_entered}
 
 pub loop-i-init : goal.loop-i-init
 loop-i-init c =
@@ -22,11 +21,11 @@ loop-i-preserved c =
     let is = c.is_entered in
     let sum = total len (passed a.records.now (l.i + 1)) in (
       omega arith,
-      ⊎_elim
-          (λ w. subst (Weighs sum) (sym w.3)
-          (weighs_entered a.records.now l.i is.result is.ensures l.n l.invariant.1 w.0.taken w.1.result w.1.ensures.0 w.2.result w.2.ensures.1 w.2.ensures.2))
-          (λ w. subst (Weighs sum) (sym w.1) (weighs_other a.records.now l.i is.result is.ensures l.n l.invariant.1 w.0.left))
-          c.if-is_entered.branch,
+      elim c.if-is_entered.branch [
+        | then-is_entered w ↦ subst (Weighs sum) (sym w.n-is)
+            (weighs_entered a.records.now l.i is.result is.ensures l.n l.invariant.1 w.if-is_entered.true w.entry_of-e.result w.entry_of-e.ensures.of w.sum-n.result w.sum-n.ensures.1 w.sum-n.ensures.2)
+        | else-is_entered w ↦ subst (Weighs sum) (sym w.n-is) (weighs_other a.records.now l.i is.result is.ensures l.n l.invariant.1 w.if-is_entered.false)
+      ],
     )
 
 pub returns : goal.returns

@@ -1,14 +1,9 @@
 -- `named_in` meets its contract: so far the sum is that of the records passed, or the largest number.
-use Prim.Native.Nat.{◌+◌, ◌-◌, ◌/◌, ◌≤◌}
-use mathlib.Core.Path.{◌≡◌, subst, sym}
-use mathlib.Core.Logic.{⊎_elim}
-use borrow.Author.Rules.{rules}
-use native.Mathlib.Omega.{arith}
+use Prim.Native.Nat.{◌-◌, ◌/◌, ◌≤◌}
 use lib.ListN.{length}
 use Rattle.ordered.specs.Counted.{total}
 use Rattle.indexer.specs.Inner.{len, Weighs}
 use Rattle.indexer.proofs.Filling.{passed}
-use Rattle.indexer.proofs.Passing.{weighs_first, weighs_entered, weighs_other}
 use Rattle.indexer.proofs.differ.named_in.Given as goal
 
 abbrev pub invariant-loop-i : goal.invariant-loop-i

@@ -1,16 +1,11 @@
 -- `rising` meets its contract: the entries passed rise, and their names have at least as many bytes as were summed up.
-use Prim.Native.Nat.{◌-◌, ◌/◌, ◌≤◌, ◌<◌}
 use mathlib.Core.Path.{ap, sym, ◌∙◌}
 use mathlib.Core.Logic.{inl, inr}
-use borrow.Author.Rules.{rules}
-use borrow.Author.Tests.{not-true, not-false}
 use native.Mathlib.Omega.{arith}
-use lib.ListN.{length}
-use Rattle.ordered.specs.Counted.{total_to}
-use Rattle.ordered.proofs.Totals.{weighs_none, weighs_more}
+use Rattle.ordered.proofs.Totals.{weighs_more}
 use Rattle.entry.specs.Entries.{entry_in}
 use Rattle.entry.specs.Order.{precedes}
-use Rattle.indexer.specs.Inner.{len, Rises}
+use Rattle.indexer.specs.Inner.{len}
 use Rattle.indexer.proofs.Meetings.{rises_one, rises_more}
 use Rattle.indexer.proofs.differ.rising.Goals as goal
 
@@ -38,7 +33,7 @@ returns-then-not-precedes c =
     ap (λ d. precedes a.text.now d (entry_in a.index.now l.n)) (sym c.read.ensures.of)
     ∙ ap (precedes a.text.now c.read.result) (sym c.read-e.ensures.of)
     ∙ sym c.precedes.ensures
-    ∙ not-true c.precedes.result c.if-not-precedes.true-raw in
+    ∙ c.if-not-precedes.true in
     record { within = l.invariant.1; rises = l.invariant.2; stop = λ h. inl (l.invariant.0, e) }
 
 pub loop-n-preserved : goal.loop-n-preserved
@@ -51,7 +46,7 @@ loop-n-preserved c =
     ap (λ d. precedes a.text.now d (entry_in a.index.now l.n)) (sym c.read.ensures.of)
     ∙ ap (precedes a.text.now c.read.result) (sym c.read-e.ensures.of)
     ∙ sym c.precedes.ensures
-    ∙ not-false c.precedes.result c.if-not-precedes.false-raw in (
+    ∙ c.if-not-precedes.false in (
       omega arith,
       omega arith,
       rises_more a.text.now (entry_in a.index.now) l.n l.invariant.0 l.invariant.2 e,

@@ -1,6 +1,5 @@
 -- `stands` meets its contract: the entry read is compared field by field.
 use mathlib.Core.Path.{ap}
-use borrow.Author.Rules.{rules}
 use borrow.Author.Tests.{le-ltb, lt-ltb}
 use native.Mathlib.Omega.{arith}
 use Rattle.index.specs.Answers.{same}

@@ -1,7 +1,6 @@
 -- `sum` meets its contract: where the sum would pass the largest number, that is less.
 use mathlib.Core.Logic.{inl, inr}
 use mathlib.Core.Path.{refl}
-use borrow.Author.Rules.{rules}
 use native.Mathlib.Omega.{arith}
 use Rattle.indexer.proofs.differ.sum.Goals as goal
 

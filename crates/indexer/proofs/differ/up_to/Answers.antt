@@ -1,9 +1,6 @@
 -- `up_to` meets its contract: so far the count is that of the records passed.
-use Prim.Native.Nat.{◌-◌, ◌/◌, ◌≤◌}
+use Prim.Native.Nat.{◌/◌}
 use mathlib.Core.Path.{◌≡◌, sym, ap, ◌∙◌}
-use mathlib.Core.Logic.{⊎_elim}
-use borrow.Author.Rules.{rules}
-use borrow.Author.Tests.{not-true, not-false}
 use native.Mathlib.Omega.{arith}
 use lib.ListN.{length}
 use Rattle.ordered.specs.Counted.{up_to}
@@ -11,6 +8,7 @@ use Rattle.entry.specs.Order.{precedes}
 use Rattle.indexer.proofs.Filling.{passed}
 use Rattle.indexer.proofs.Passing.{count_none, count_few, count_after, count_more, count_other}
 use Rattle.indexer.proofs.differ.up_to.Goals as goal
+use Rattle.indexer.proofs.differ.up_to.Goals.{then-is_entered+then-not-precedes, then-is_entered+else-not-precedes, else-is_entered}
 
 pub loop-i-init : goal.loop-i-init
 loop-i-init c =
@@ -28,14 +26,13 @@ loop-i-preserved c =
     let l = c.loop-i in
     let is = c.is_entered in (
       omega arith,
-      ⊎_elim
-          (λ w. w.4 ∙ count_more a.records.now l.i is.result is.ensures a.text.now a.e l.n l.invariant.1
-          w.0.taken w.1.result w.1.ensures.0 (sym w.2.ensures ∙ not-true w.2.result w.3.taken))
-          (⊎_elim
-          (λ w. w.4 ∙ count_after a.records.now l.i is.result is.ensures a.text.now a.e l.n l.invariant.1
-          w.0.taken w.1.result w.1.ensures.0 (sym w.2.ensures ∙ not-false w.2.result w.3.left))
-          (λ w. w.1 ∙ count_other a.records.now l.i is.result is.ensures a.text.now a.e l.n l.invariant.1 w.0.left))
-          c.if-is_entered.branch,
+      elim c.if-is_entered.branch [
+        | then-is_entered+then-not-precedes w ↦ w.n-is ∙ count_more a.records.now l.i is.result is.ensures a.text.now a.e l.n l.invariant.1
+            w.if-is_entered.true w.entry_of.result w.entry_of.ensures.of (sym w.precedes.ensures ∙ w.if-not-precedes.true)
+        | then-is_entered+else-not-precedes w ↦ w.n-is ∙ count_after a.records.now l.i is.result is.ensures a.text.now a.e l.n l.invariant.1
+            w.if-is_entered.true w.entry_of.result w.entry_of.ensures.of (sym w.precedes.ensures ∙ w.if-not-precedes.false)
+        | else-is_entered w ↦ w.n-is ∙ count_other a.records.now l.i is.result is.ensures a.text.now a.e l.n l.invariant.1 w.if-is_entered.false
+      ],
     )
 
 pub returns : goal.returns

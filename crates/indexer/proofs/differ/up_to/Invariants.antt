@@ -1,15 +1,10 @@
 -- `up_to` meets its contract: so far the count is that of the records passed.
 use Prim.Native.Nat.{◌-◌, ◌/◌, ◌≤◌}
-use mathlib.Core.Path.{◌≡◌, sym, ap, ◌∙◌}
-use mathlib.Core.Logic.{⊎_elim}
-use borrow.Author.Rules.{rules}
-use borrow.Author.Tests.{not-true, not-false}
-use native.Mathlib.Omega.{arith}
+use mathlib.Core.Path.{◌≡◌}
 use lib.ListN.{length}
 use Rattle.ordered.specs.Counted.{up_to}
 use Rattle.entry.specs.Order.{precedes}
 use Rattle.indexer.proofs.Filling.{passed}
-use Rattle.indexer.proofs.Passing.{count_none, count_few, count_after, count_more, count_other}
 use Rattle.indexer.proofs.differ.up_to.Given as goal
 
 abbrev pub invariant-loop-i : goal.invariant-loop-i

@@ -1,11 +1,11 @@
 -- `indexer::fill::entered_in` meets its contract: so far the count is that of the entries of the records passed.
-use Prim.Native.Nat.{◌-◌, ◌/◌, ◌≤◌}
+use Prim.Native.Nat.{◌/◌}
 use mathlib.Core.Path.{◌≡◌, sym, ap, ◌∙◌}
-use mathlib.Core.Logic.{⊎_elim}
 use native.Mathlib.Omega.{arith}
 use lib.ListN.{length}
 use Rattle.indexer.proofs.Filling.{passed, passed_none, passed_few, counted, not_counted}
 use Rattle.indexer.proofs.fill.entered_in.Goals as goal
+use Rattle.indexer.proofs.fill.entered_in.Goals.{then-is_entered, else-is_entered}
 
 pub loop-i-init : goal.loop-i-init
 loop-i-init c =
@@ -34,9 +34,10 @@ loop-i-preserved c =
     let l = c.loop-i in
     let is = c.is_entered in (
       omega arith,
-      ⊎_elim (λ w. w.1 ∙ counted a.records.now l.i l.n is.result is.ensures l.invariant.1 w.0.taken)
-          (λ w. w.1 ∙ not_counted a.records.now l.i l.n is.result is.ensures l.invariant.1 w.0.left)
-          c.if-is_entered.branch,
+      elim c.if-is_entered.branch [
+        | then-is_entered w ↦ w.n-is ∙ counted a.records.now l.i l.n is.result is.ensures l.invariant.1 w.if-is_entered.true
+        | else-is_entered w ↦ w.n-is ∙ not_counted a.records.now l.i l.n is.result is.ensures l.invariant.1 w.if-is_entered.false
+      ],
     )
 
 pub returns : goal.returns

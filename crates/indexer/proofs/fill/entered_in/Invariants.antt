@@ -1,10 +1,8 @@
 -- `indexer::fill::entered_in` meets its contract: so far the count is that of the entries of the records passed.
 use Prim.Native.Nat.{◌-◌, ◌/◌, ◌≤◌}
-use mathlib.Core.Path.{◌≡◌, sym, ap, ◌∙◌}
-use mathlib.Core.Logic.{⊎_elim}
-use native.Mathlib.Omega.{arith}
+use mathlib.Core.Path.{◌≡◌}
 use lib.ListN.{length}
-use Rattle.indexer.proofs.Filling.{passed, passed_none, passed_few, counted, not_counted}
+use Rattle.indexer.proofs.Filling.{passed}
 use Rattle.indexer.proofs.fill.entered_in.Given as goal
 
 abbrev pub invariant-loop-i : goal.invariant-loop-i

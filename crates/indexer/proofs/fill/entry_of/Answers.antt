@@ -1,7 +1,6 @@
 -- `indexer::fill::entry_of` meets its contract: the part read is the record's 36 bytes, and the fields are those of the record.
 use Prim.Native.Nat.{ℕ, ◌+◌, ◌-◌, ◌*◌}
 use mathlib.Core.Path.{◌≡◌, ap, ◌∙◌}
-use borrow.Author.Rules.{rules}
 use native.Mathlib.Omega.{arith}
 use lib.ListN.{take, drop}
 use Rattle.record.specs.Bytes.{field, decoded}

@@ -1,8 +1,6 @@
 -- `indexer::fill::fill` meets its contract: so far the entries of the records passed are laid from the front on.
-use Prim.Native.Nat.{◌-◌, ◌/◌, ◌≤◌, ◌<◌}
+use Prim.Native.Nat.{◌/◌, ◌<◌}
 use mathlib.Core.Path.{◌≡◌, sym, ap, ◌∙◌}
-use mathlib.Core.Logic.{⊎_elim}
-use borrow.Author.Rules.{rules}
 use native.Mathlib.Omega.{arith}
 use lib.ListN.{length}
 use lib.Seq.{sets, length-sets}
@@ -11,6 +9,7 @@ use Rattle.entry.specs.Entries.{encoded_all}
 use Rattle.index.specs.Index.{entries}
 use Rattle.indexer.proofs.Filling.{passed, passed_none, passed_few, nothing_laid, counted, not_counted, laid, not_laid, laid_all}
 use Rattle.indexer.proofs.fill.fill.Goals as goal
+use Rattle.indexer.proofs.fill.fill.Goals.{then-is_entered, else-is_entered}
 
 pub loop-i-init : goal.loop-i-init
 loop-i-init c =
@@ -47,13 +46,15 @@ loop-i-preserved c =
     let is = c.is_entered in
     let below : l.i < length f / 36 = omega arith in (
       omega arith,
-      ⊎_elim (λ w. w.7 ∙ counted f l.i l.n is.result is.ensures l.invariant.1 w.0.taken)
-          (λ w. w.2 ∙ not_counted f l.i l.n is.result is.ensures l.invariant.1 w.0.left)
-          c.if-is_entered.branch,
-      ⊎_elim (λ w. laid f l.i l.n is.result is.ensures l.invariant.1 d l.index l.invariant.2 below s.requires w.0.taken
-          w.1.result w.1.ensures.0 c.if-is_entered.index (w.6 ∙ w.3.ensures.1))
-          (λ w. w.1 ∙ not_laid f l.i l.n is.result is.ensures l.invariant.1 d l.index l.invariant.2 w.0.left)
-          c.if-is_entered.branch,
+      elim c.if-is_entered.branch [
+        | then-is_entered w ↦ w.n-is ∙ counted f l.i l.n is.result is.ensures l.invariant.1 w.if-is_entered.true
+        | else-is_entered w ↦ w.n-is ∙ not_counted f l.i l.n is.result is.ensures l.invariant.1 w.if-is_entered.false
+      ],
+      elim c.if-is_entered.branch [
+        | then-is_entered w ↦ laid f l.i l.n is.result is.ensures l.invariant.1 d l.index l.invariant.2 below s.requires w.if-is_entered.true
+            w.entry_of.result w.entry_of.ensures.of c.if-is_entered.index (w.index-is ∙ w.put.ensures.file_after)
+        | else-is_entered w ↦ w.index-is ∙ not_laid f l.i l.n is.result is.ensures l.invariant.1 d l.index l.invariant.2 w.if-is_entered.false
+      ],
     )
 
 pub shape_of-index : goal.shape_of-index

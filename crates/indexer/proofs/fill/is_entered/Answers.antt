@@ -1,7 +1,6 @@
 -- `indexer::fill::is_entered` meets its contract: the byte read is the record's kind.
 use mathlib.Core.Path.{ap, sym}
 use native.Mathlib.Omega.{arith}
-use borrow.Author.Rules.{rules}
 use Rattle.record.specs.Bytes.{decoded}
 use Rattle.file.proofs.Fields.{byte_of}
 use Rattle.index.specs.Index.{entered}

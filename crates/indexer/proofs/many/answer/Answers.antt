@@ -1,5 +1,4 @@
 -- `answer` meets its contract: an index that is the reading's rises, and what is sought in it is what is sought in the reading.
-use borrow.Author.Rules.{rules}
 use Rattle.index.specs.Queries.{name_in}
 use Rattle.indexer.proofs.Finding.{indexed_climbs, sought_at, sought_nowhere}
 use Rattle.indexer.proofs.many.answer.Goals as goal

@@ -1,15 +1,10 @@
 -- `answer_each` meets its contract: so far the answers to the queries passed are laid from the front on.
 use Prim.Native.Nat.{◌-◌, ◌/◌, ◌≤◌}
-use mathlib.Core.Path.{◌≡◌, ap, ◌∙◌}
-use borrow.Author.Rules.{rules}
-use native.Mathlib.Omega.{arith}
+use mathlib.Core.Path.{◌≡◌}
 use lib.ListN.{length}
-use lib.Seq.{sets, length-sets}
-use Rattle.grammar.specs.Reading.{reading}
-use Rattle.index.specs.Answers.{sought}
-use Rattle.index.specs.Queries.{name_in, encoded_all}
+use lib.Seq.{sets}
+use Rattle.index.specs.Queries.{encoded_all}
 use Rattle.indexer.specs.Inner.{sought_each}
-use Rattle.indexer.proofs.Asking.{nothing_laid, answer_laid}
 use Rattle.indexer.proofs.many.answer_each.Given as goal
 
 abbrev pub invariant-loop-i : goal.invariant-loop-i

@@ -1,11 +1,8 @@
 -- `lower` meets its contract: low and high bracket the answer.
-use Prim.Native.Nat.{◌-◌}
 use mathlib.Core.Path.{ap, sym, ◌∙◌}
-use borrow.Author.Rules.{rules}
 use native.Mathlib.Omega.{arith}
-use Rattle.entry.specs.Entries.{entry_in}
 use Rattle.entry.specs.Order.{key, key_of, before}
-use Rattle.indexer.proofs.Bracket.{Bracket, bracket_start, bracket_up, bracket_down, bracketed}
+use Rattle.indexer.proofs.Bracket.{bracket_start, bracket_up, bracket_down, bracketed}
 use Rattle.indexer.proofs.search.lower.Goals as goal
 
 pub loop-low-init : goal.loop-low-init

@@ -1,8 +1,6 @@
 -- `seek` meets its contract: what bears the owner and the name begins where `lower` says, if anywhere.
 use mathlib.Core.Path.{◌≡◌, ap, sym, ◌∙◌}
 use mathlib.Core.Bool.{true, true≢false}
-use borrow.Author.Rules.{rules}
-use borrow.Author.Tests.{not-true, not-false}
 use native.Mathlib.Omega.{arith}
 use Rattle.entry.specs.Entries.{entry_in}
 use Rattle.entry.specs.Order.{alike, name_of}
@@ -35,7 +33,7 @@ returns-then-not-alike c =
     ∙ ap (λ n. alike n a.name.now) c.part.ensures
     ∙ ap (λ e. alike (name_of a.text.now e) a.name.now) c.read-e.ensures.of in
     seeks_none a.text.now a.owner a.name.now (entry_in a.index.now) _ l.result s.requires l.ensures
-    (λ h b. true≢false (sym (bears_name a.text.now a.owner a.name.now _ b) ∙ sym same ∙ not-true c.alike.result c.if-not-alike.true-raw))
+    (λ h b. true≢false (sym (bears_name a.text.now a.owner a.name.now _ b) ∙ sym same ∙ c.if-not-alike.true))
 
 pub returns : goal.returns
 returns c =
@@ -48,7 +46,7 @@ returns c =
     ∙ ap (λ n. alike n a.name.now) c.part.ensures
     ∙ ap (λ e. alike (name_of a.text.now e) a.name.now) e in
     let b : bears a.text.now a.owner a.name.now (entry_in a.index.now l.result) ≡ true =
-    bears_of a.text.now a.owner a.name.now _ (sym (ap (λ e. e.owner) e) ∙ c.if-e-owner.false) (sym same ∙ not-false c.alike.result c.if-not-alike.false-raw) in (
+    bears_of a.text.now a.owner a.name.now _ (sym (ap (λ e. e.owner) e) ∙ c.if-e-owner.false) (sym same ∙ c.if-not-alike.false) in (
       l.result,
       omega arith,
       b,
