@@ -34,23 +34,30 @@ asked_after_tell_in_refused c =
 
 pub returns-in-At : goal.returns-in-At
 returns-in-At c =
-    let both = let done = c in
-    let arm = done in
-    let told = rw done.done.ensures at c.tell.ensures in
-    rw (← asked c, arm.in-At.is) (told.0, (refl, told.1)) in
-    record { value = both.0; index_after = both.1; place_after = both.2; line_after = both.3 }
+    let told = c.tell.ensures in
+    record {
+      value = rw (← asked c, c.in-At.is) (rw c.done.ensures at told.value);
+      index_after = rw (← asked c, c.in-At.is) refl;
+      place_after = rw (← asked c, c.in-At.is) (rw c.done.ensures at told.place_after);
+      line_after = rw (← asked c, c.in-At.is) (rw c.done.ensures at told.line_after);
+    }
 
 pub returns-in-None : goal.returns-in-None
 returns-in-None c =
-    let both = let done = c in
-    let arm = done in
-    let told = rw done.done-in-None.ensures at c.tell-in-None.ensures in
-    rw (← asked_after_tell_in_none c, arm.in-None.is) (told.0, (refl, told.1)) in
-    record { value = both.0; index_after = both.1; place_after = both.2; line_after = both.3 }
+    let told = c.tell-in-None.ensures in
+    record {
+      value = rw (← asked_after_tell_in_none c, c.in-None.is) (rw c.done-in-None.ensures at told.value);
+      index_after = rw (← asked_after_tell_in_none c, c.in-None.is) refl;
+      place_after = rw (← asked_after_tell_in_none c, c.in-None.is) (rw c.done-in-None.ensures at told.place_after);
+      line_after = rw (← asked_after_tell_in_none c, c.in-None.is) (rw c.done-in-None.ensures at told.line_after);
+    }
 
 pub returns-in-Refused : goal.returns-in-Refused
 returns-in-Refused c =
-    let both = let arm = c in
     let told = c.tell-in-Refused.ensures in
-    rw (← asked_after_tell_in_refused c, arm.in-Refused.is) (told.value, (refl, told.place_after)) in
-    record { value = both.0; index_after = both.1; place_after = both.2; line_after = both.3 }
+    record {
+      value = rw (← asked_after_tell_in_refused c, c.in-Refused.is) told.value;
+      index_after = rw (← asked_after_tell_in_refused c, c.in-Refused.is) refl;
+      place_after = rw (← asked_after_tell_in_refused c, c.in-Refused.is) told.place_after;
+      line_after = rw (← asked_after_tell_in_refused c, c.in-Refused.is) told.line_after;
+    }

@@ -6,31 +6,42 @@ use Rattle.lef.proofs.lef_token.Goals as goal
 
 pub returns-in-Refused : goal.returns-in-Refused
 returns-in-Refused c =
-    let both = let left = c in
-    let arm = left in
     let told = c.tell.ensures in
-    let l = left.leave.ensures in
-    rw (screen_told _ _ _ (sym arm.in-Refused.is ∙ arm.screen-screened.ensures)) (told.value, (l.kind_after, (l.start_after.0, (l.start_after.1, told.place_after)))) in
-    record { value = both.0; kind_after = both.1; start_after = both.2; stop_after = both.3; place_after = both.4; line_after = both.5 }
+    let l = c.leave.ensures in
+    let screened = screen_told c.args.text.now c.args.from _ (sym c.in-Refused.is ∙ c.screen-screened.ensures) in
+    record {
+      value = rw screened told.value;
+      kind_after = rw screened l.kind_after;
+      start_after = rw screened l.start_after;
+      stop_after = rw screened l.stop_after;
+      place_after = rw screened told.place_after;
+      line_after = rw screened told.line_after;
+    }
 
 pub returns-in-Next : goal.returns-in-Next
 returns-in-Next c =
-    let both = let left = c in
-    let arm = left in
-    let clear = arm in
-    let told = rw c.done.ensures at c.tell-in-Next.ensures in
-    let l = left.leave-in-Next.ensures in
-    rw (token_told _ _ _ clear.screen-screened.ensures clear.in_default.is _ (sym arm.in-Next.is ∙ arm.token_from.ensures))
-    (told.0, (l.kind_after, (l.start_after.0, (l.start_after.1, told.1)))) in
-    record { value = both.0; kind_after = both.1; start_after = both.2; stop_after = both.3; place_after = both.4; line_after = both.5 }
+    let told = c.tell-in-Next.ensures in
+    let l = c.leave-in-Next.ensures in
+    let token = token_told c.args.text.now c.args.from _ c.screen-screened.ensures c.in_default.is _ (sym c.in-Next.is ∙ c.token_from.ensures) in
+    record {
+      value = rw token (rw c.done.ensures at told.value);
+      kind_after = rw token l.kind_after;
+      start_after = rw token l.start_after;
+      stop_after = rw token l.stop_after;
+      place_after = rw token (rw c.done.ensures at told.place_after);
+      line_after = rw token (rw c.done.ensures at told.line_after);
+    }
 
 pub returns-in-Refused-token_from : goal.returns-in-Refused-token_from
 returns-in-Refused-token_from c =
-    let both = let left = c in
-    let arm = left in
-    let clear = arm in
     let told = c.tell-in-Refused-token_from.ensures in
-    let l = left.leave-in-Refused-token_from.ensures in
-    rw (refusal_told _ _ _ clear.screen-screened.ensures clear.in_default.is _ (sym arm.in-Refused-token_from.is ∙ arm.token_from.ensures))
-    (told.value, (l.kind_after, (l.start_after.0, (l.start_after.1, told.place_after)))) in
-    record { value = both.0; kind_after = both.1; start_after = both.2; stop_after = both.3; place_after = both.4; line_after = both.5 }
+    let l = c.leave-in-Refused-token_from.ensures in
+    let refused = refusal_told c.args.text.now c.args.from _ c.screen-screened.ensures c.in_default.is _ (sym c.in-Refused-token_from.is ∙ c.token_from.ensures) in
+    record {
+      value = rw refused told.value;
+      kind_after = rw refused l.kind_after;
+      start_after = rw refused l.start_after;
+      stop_after = rw refused l.stop_after;
+      place_after = rw refused told.place_after;
+      line_after = rw refused told.line_after;
+    }
