@@ -23,8 +23,7 @@ const NONE: u64 = 18446744073709551615;
 const NOWHERE: u64 = 4294967295;
 
 // The records of a text, into the buffer.
-#[unsafe(no_mangle)]
-pub extern "C" fn lef_read(text: &[u8], records: &mut [u8], place: &mut u64, line: &mut u64) -> u64
+pub fn lef_read(text: &[u8], records: &mut [u8], place: &mut u64, line: &mut u64) -> u64
     ensures value { result ≡ (read_numbers text.now records.old).number }
     ensures place_after { place.new ≡ (read_numbers text.now records.old).place }
     ensures line_after { line.new ≡ (read_numbers text.now records.old).line }
@@ -34,8 +33,7 @@ pub extern "C" fn lef_read(text: &[u8], records: &mut [u8], place: &mut u64, lin
 }
 
 // Whether a record file has the records of a text, each once, in any order.
-#[unsafe(no_mangle)]
-pub extern "C" fn lef_check(text: &[u8], records: &[u8], place: &mut u64, line: &mut u64) -> u64
+pub fn lef_check(text: &[u8], records: &[u8], place: &mut u64, line: &mut u64) -> u64
     ensures value { result ≡ (check_numbers text.now records.now).number }
     ensures place_after { place.new ≡ (check_numbers text.now records.now).place }
     ensures line_after { line.new ≡ (check_numbers text.now records.now).line }
@@ -44,8 +42,7 @@ pub extern "C" fn lef_check(text: &[u8], records: &[u8], place: &mut u64, line: 
 }
 
 // The records of a file that is accepted, as canonical text, into the buffer.
-#[unsafe(no_mangle)]
-pub extern "C" fn lef_write(
+pub fn lef_write(
     text: &[u8],
     records: &[u8],
     out: &mut [u8],
@@ -61,8 +58,7 @@ pub extern "C" fn lef_write(
 }
 
 // The first token of a text from a place on.
-#[unsafe(no_mangle)]
-pub extern "C" fn lef_token(
+pub fn lef_token(
     text: &[u8],
     from: u64,
     kind: &mut u64,
@@ -97,8 +93,7 @@ pub extern "C" fn lef_token(
 
 // The index of the record in force for an owner and a kind, and for an option of a LAYER a code. A kind that is no byte is held by no
 // record, and is asked for as one that has none in force; such a code as one that is of no option.
-#[unsafe(no_mangle)]
-pub extern "C" fn lef_in_force(
+pub fn lef_in_force(
     records: &[u8],
     owner: u64,
     kind: u64,
@@ -134,8 +129,7 @@ pub extern "C" fn lef_in_force(
 }
 
 // How many owners the record at the index has.
-#[unsafe(no_mangle)]
-pub extern "C" fn lef_owners(
+pub fn lef_owners(
     records: &[u8],
     index: u64,
     count: &mut u64,
@@ -160,8 +154,7 @@ pub extern "C" fn lef_owners(
 }
 
 // The name of the record at the index, as a span of the text.
-#[unsafe(no_mangle)]
-pub extern "C" fn lef_name(
+pub fn lef_name(
     text: &[u8],
     records: &[u8],
     index: u64,
@@ -179,8 +172,7 @@ pub extern "C" fn lef_name(
 }
 
 // The index of a text's SITE blocks, MACROs and PINs, into the buffer.
-#[unsafe(no_mangle)]
-pub extern "C" fn lef_index(
+pub fn lef_index(
     text: &[u8],
     records: &[u8],
     index: &mut [u8],
@@ -196,8 +188,7 @@ pub extern "C" fn lef_index(
 }
 
 // Whether an index is the one that would be built.
-#[unsafe(no_mangle)]
-pub extern "C" fn lef_index_check(
+pub fn lef_index_check(
     text: &[u8],
     records: &[u8],
     index: &[u8],
@@ -212,8 +203,7 @@ pub extern "C" fn lef_index_check(
 }
 
 // The `at` of the first SITE block, MACRO or PIN of an owner and a name.
-#[unsafe(no_mangle)]
-pub extern "C" fn lef_find(
+pub fn lef_find(
     text: &[u8],
     records: &[u8],
     index: &[u8],
@@ -245,8 +235,7 @@ pub extern "C" fn lef_find(
 }
 
 // The `at` of the first SITE block, MACRO or PIN of the owner and the name of each query in turn, into the buffer.
-#[unsafe(no_mangle)]
-pub extern "C" fn lef_find_many(
+pub fn lef_find_many(
     text: &[u8],
     records: &[u8],
     index: &[u8],
