@@ -2,7 +2,7 @@
 """words.py: writes what follows from the word lists of crates/word/specs/Words.antt: the stems, keys and counts of specs/Lookup.antt,
 the numbers of src/names.rt, the arms of src/nodes.rt, src/spelling.rt and src/letters.rt, and the answers to them in proofs/nodes, proofs/spelling
 and proofs/letters; the arms of src/slots.rt, and in src/lib.rt the slot of a name, by shifts that a search finds.
-Run at the repository's root after a change of those lists, then `rt fmt`. The proofs, and not this script, say that the tables are right."""
+Run at the repository's root after a change of those lists, then `rt fmt` in crates/word. The proofs, and not this script, say that the tables are right."""
 import itertools
 import re
 
@@ -10,9 +10,9 @@ WORDS = "crates/word/specs/Words.antt"
 LOOKUP = "crates/word/specs/Lookup.antt"
 NAMES = "crates/word/src/names.rt"
 NODES = "crates/word/src/nodes.rt"
-PROOF = "crates/word/proofs/nodes/next/Proof.antt"
+PROOF = "crates/word/proofs/nodes/next/Answers.antt"
 SPELT = "crates/word/src/%s.rt"
-SPELT_PROOF = "crates/word/proofs/%s/%s/Proof.antt"
+SPELT_PROOF = "crates/word/proofs/%s/%s/Answers.antt"
 LIB = "crates/word/src/lib.rt"
 SLOTS = "crates/word/src/slots.rt"
 
@@ -65,15 +65,25 @@ def replaced(path, start, stop, middle):
 
 replaced(LOOKUP, "\nstems =\n", "\n\n", rows(['"%s" ∷' % s for s in stems] + ["[]"], 140))
 replaced(LOOKUP, "\nkeyed =\n", "\n\n", rows(["0x%x ∷" % key(w) for w in nodes] + ["[]"], 140))
-replaced(LOOKUP, "\nwordCount = ", "\n", str(len(words)))
-replaced(LOOKUP, "\nnodeCount = ", "\n", str(len(nodes)))
+replaced(LOOKUP, "\nword_count = ", "\n", str(len(words)))
+replaced(LOOKUP, "\nnode_count = ", "\n", str(len(nodes)))
 with open(NAMES, "w") as f:
     f.write("// The number of each word: the key words first, then the words of values and those that stand inside UNITS.\n")
     f.write("pub const KEYS: u8 = %d;\n\npub const WORDS: u8 = %d;\n\n" % (len(keys), len(words)))
     f.write("\n".join("pub const %s: u8 = %d;\n" % (w, k) for k, w in enumerate(words, 1)))
 replaced(NODES, "    match key {\n", "        _ => 0,", "".join("        0x%x => %d,\n" % (key(w), k) for k, w in enumerate(nodes, 1)))
-arms = ["(λ c. at-key _ (c .match .keys%d) refl)" % k for k in range(1, len(nodes) + 1)]
-replaced(PROOF, "    (tie.spec\n", "\n    (λ c. nowhere", rows(arms, 160))
+
+
+def answered(proof, arms, by):
+    """The answers to the arms of a `match`, named by what they match, before the one to all else."""
+    text = open(proof).read()
+    first, last = text.index("\npub returns-in-"), text.index("\npub returns-in_default")
+    opened = re.search(r"\n(unfolding .*)\n", text[first:])[1]
+    answer = "\npub returns-in-{0} : goal.returns-in-{0}\n{1}\nreturns-in-{0} c =\n    {2} _ c.in-{0}.is refl\n"
+    open(proof, "w").write(text[:first] + "".join(answer.format(arm, opened, by) for arm in arms) + text[last:])
+
+
+answered(PROOF, map(key, nodes), "at_key")
 
 
 def spelt(module, name, form, numbers):
@@ -85,8 +95,7 @@ def spelt(module, name, form, numbers):
     replaced(SPELT % module, start, "        _ => 0,", "".join("        %d => %s,\n" % arm for arm in arms))
     proof = SPELT_PROOF % (module, name)
     replaced(proof, "\nlisted =\n", "\n\n", rows(["%d ∷" % k for k, _ in arms] + ["[]"], 140))
-    answers = ["(λ c. at-word what _ (c .match .keys%d) refl)" % i for i in range(1, len(arms) + 1)]
-    replaced(proof, "    (tie.spec\n", "\n    (λ c. no-word", rows(answers, 140))
+    answered(proof, [k for k, _ in arms], "at_word what")
 
 
 def number_of(letters):
