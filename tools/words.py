@@ -10,9 +10,9 @@ WORDS = "crates/word/specs/Words.antt"
 LOOKUP = "crates/word/specs/Lookup.antt"
 NAMES = "crates/word/src/names.rt"
 NODES = "crates/word/src/nodes.rt"
-PROOF = "crates/word/proofs/nodes/next/Proof.antt"
+PROOF = "crates/word/proofs/nodes/next/Answers.antt"
 SPELT = "crates/word/src/%s.rt"
-SPELT_PROOF = "crates/word/proofs/%s/%s/Proof.antt"
+SPELT_PROOF = "crates/word/proofs/%s/%s/Answers.antt"
 LIB = "crates/word/src/lib.rt"
 SLOTS = "crates/word/src/slots.rt"
 
@@ -63,17 +63,25 @@ def replaced(path, start, stop, middle):
     open(path, "w").write(text[:a] + middle + text[b:])
 
 
+def answered(path, opened, arms):
+    """The answers to the arms: each is by its key or number, which names the goal, and the one for no arm stands as it is."""
+    text = open(path).read()
+    a = text.index("pub returns-in")
+    b = text.index("pub returns-in_default")
+    one = "pub returns-in-%d : goal.returns-in-%d\nunfolding " + opened + "\nreturns-in-%d c =\n    %s _ c.in-%d.is refl\n\n"
+    open(path, "w").write(text[:a] + "".join(one % (k, k, k, law, k) for k, law in arms) + text[b:])
+
+
 replaced(LOOKUP, "\nstems =\n", "\n\n", rows(['"%s" ∷' % s for s in stems] + ["[]"], 140))
 replaced(LOOKUP, "\nkeyed =\n", "\n\n", rows(["0x%x ∷" % key(w) for w in nodes] + ["[]"], 140))
-replaced(LOOKUP, "\nwordCount = ", "\n", str(len(words)))
-replaced(LOOKUP, "\nnodeCount = ", "\n", str(len(nodes)))
+replaced(LOOKUP, "\nword_count = ", "\n", str(len(words)))
+replaced(LOOKUP, "\nnode_count = ", "\n", str(len(nodes)))
 with open(NAMES, "w") as f:
     f.write("// The number of each word: the key words first, then the words of values and those that stand inside UNITS.\n")
     f.write("pub const KEYS: u8 = %d;\n\npub const WORDS: u8 = %d;\n\n" % (len(keys), len(words)))
     f.write("\n".join("pub const %s: u8 = %d;\n" % (w, k) for k, w in enumerate(words, 1)))
 replaced(NODES, "    match key {\n", "        _ => 0,", "".join("        0x%x => %d,\n" % (key(w), k) for k, w in enumerate(nodes, 1)))
-arms = ["(λ c. at-key _ (c .match .keys%d) refl)" % k for k in range(1, len(nodes) + 1)]
-replaced(PROOF, "    (tie.spec\n", "\n    (λ c. nowhere", rows(arms, 160))
+answered(PROOF, "keyed place_in next_of", [(key(w), "at_key") for w in nodes])
 
 
 def spelt(module, name, form, numbers):
@@ -85,8 +93,7 @@ def spelt(module, name, form, numbers):
     replaced(SPELT % module, start, "        _ => 0,", "".join("        %d => %s,\n" % arm for arm in arms))
     proof = SPELT_PROOF % (module, name)
     replaced(proof, "\nlisted =\n", "\n\n", rows(["%d ∷" % k for k, _ in arms] + ["[]"], 140))
-    answers = ["(λ c. at-word what _ (c .match .keys%d) refl)" % i for i in range(1, len(arms) + 1)]
-    replaced(proof, "    (tie.spec\n", "\n    (λ c. no-word", rows(answers, 140))
+    answered(proof, "keys values words spelling" + (" number" if name != "count" else ""), [(k, "at_word what") for k, _ in arms])
 
 
 def number_of(letters):
