@@ -203,6 +203,12 @@ for text, said in form.readings():
         letter, field = rng.choice((("b", "0010"), ("c", ""), ("c", "00")))
         ask(letter, text, bytes(rng.choice((0, 1, SIZE))), field)
 
+# ---- long texts
+LONG_TEXTS = [b"".join(v.to_bytes(3, "little") for v in given).hex() for given in (
+    (1, 0, 1, 0, 0), (2, 1, 2, 1, 0), (1000, 1, 1000, 500, 499), (1000, 999, 1000, 999, 0), (1000, 0, 1, 1, 0), (1000, 7, 10, 300, 9),
+    (4096, 1023, 4096, 2048, 4095), (20000, 7919, 20000, 19999, 12345), (20000, 7919, 20000, 7, 7))]
+asked += (form.line("m", given) for given in LONG_TEXTS)
+
 # ---- many look-ups in one call
 def ask_many(text, rows, index, questions):
     ask("n", text, mixed(rows), index.hex(), *questions)
@@ -228,11 +234,7 @@ for _ in range(40):
 for text, said in form.readings():
     if said.startswith("refusal ") and rng.random() < 0.1:
         ask("n", text, bytes(rng.choice((0, 1, SIZE))), bytes(rng.choice((0, 1, ENTRY.size))).hex(), rng.choice(queries.FAULTS))
-
-# ---- long texts
-for given in ((1, 0, 1, 0, 0), (2, 1, 2, 1, 0), (1000, 1, 1000, 500, 499), (1000, 999, 1000, 999, 0), (1000, 0, 1, 1, 0), (1000, 7, 10, 300, 9),
-              (4096, 1023, 4096, 2048, 4095), (20000, 7919, 20000, 19999, 12345), (20000, 7919, 20000, 7, 7)):
-    asked.append(form.line("m", b"".join(v.to_bytes(3, "little") for v in given).hex()))
+asked += (form.line("l", given) for given in LONG_TEXTS)
 
 if sys.argv[1:] == ["--check"]:
     sys.exit(not answers.checked("indexes", asked))

@@ -12,7 +12,8 @@ const HEAD: usize = 8;
 
 const PIN: usize = 20;
 
-pub(crate) fn made(digits: &[u8]) {
+// What is said of a long text, by its numbers; all pins are found in one call as well, where that is asked.
+pub(crate) fn made(digits: &[u8], all: bool) {
     let mut numbers = [0u8; 15];
     hex::bytes(digits, &mut numbers);
     long(
@@ -21,6 +22,7 @@ pub(crate) fn made(digits: &[u8]) {
         three(&numbers, 6),
         three(&numbers, 9),
         three(&numbers, 12),
+        all,
     );
 }
 
@@ -30,14 +32,14 @@ fn three(numbers: &[u8], place: usize) -> usize
     little::number(numbers, place, 3) as usize
 }
 
-fn long(n: usize, step: usize, names: usize, odd: usize, put: usize)
+fn long(n: usize, step: usize, names: usize, odd: usize, put: usize, all: bool)
     requires { (n < 16777216) × (step < 16777216) × (names < 16777216) }
 {
     let mut text = text_room();
     let mut file = file_room();
     let mut index = index_room();
     let length = pins(n, step, names, &mut text);
-    read(&text, length, &mut file, &mut index, odd, put);
+    read(&text, length, &mut file, &mut index, odd, put, all);
 }
 
 // Room for 20,000 pins: their text, their records and their entries.
@@ -129,18 +131,26 @@ fn lay(text: &mut [u8], place: usize, byte: u8) {
     }
 }
 
-fn read(text: &[u8], n: usize, file: &mut [u8], index: &mut [u8], odd: usize, put: usize) {
+fn read(
+    text: &[u8],
+    n: usize,
+    file: &mut [u8],
+    index: &mut [u8],
+    odd: usize,
+    put: usize,
+    all: bool,
+) {
     if n <= text.len() {
         let a = reader::reading::read(&text[0..n], file);
         let count = a.place;
         if count <= file.len() / Record::SIZE {
             let stop = Record::SIZE * count;
-            build(&text[0..n], &file[0..stop], index, odd, put);
+            build(&text[0..n], &file[0..stop], index, odd, put, all);
         }
     }
 }
 
-fn build(text: &[u8], file: &[u8], index: &mut [u8], odd: usize, put: usize) {
+fn build(text: &[u8], file: &[u8], index: &mut [u8], odd: usize, put: usize, all: bool) {
     let a = indexer::build(text, file, index);
     let count = a.place;
     say::text(b";");
@@ -148,7 +158,7 @@ fn build(text: &[u8], file: &[u8], index: &mut [u8], odd: usize, put: usize) {
     if count <= index.len() / Entry::SIZE {
         let stop = Entry::SIZE * count;
         say::number(sum(&index[0..stop]));
-        confuse(text, file, &mut index[0..stop], odd, put);
+        confuse(text, file, &mut index[0..stop], odd, put, all);
     }
 }
 
@@ -169,12 +179,14 @@ fn wide(b: u8) -> u64
     b as u64
 }
 
-// Finds a pin and all pins, and checks the index with one entry in the place of another.
-fn confuse(text: &[u8], file: &[u8], index: &mut [u8], odd: usize, put: usize) {
+// Finds a pin, and all pins where that is asked, and checks the index with one entry in the place of another.
+fn confuse(text: &[u8], file: &[u8], index: &mut [u8], odd: usize, put: usize, all: bool) {
     say::text(b";");
     found(indexer::find(text, file, index, 0, &name(put)));
-    say::text(b";");
-    every(text, file, index, index.len() / Entry::SIZE);
+    if all {
+        say::text(b";");
+        every(text, file, index, index.len() / Entry::SIZE);
+    }
     double(index, put, odd);
     say::text(b";");
     answer(indexer::check(text, file, index));

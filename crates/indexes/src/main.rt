@@ -7,13 +7,15 @@
 //   p TEXT FILE INDEX POSITIONS..  checking an index of entries picked from the one given, a byte each
 //   q TEXT FILE INDEX QUESTION..   finding; a question is the owner in eight bytes, the lowest first, and the name as a text: 1 and its
 //                                  `at`, or 0 and 0
+//   m NUMBERS                      a long text, of one macro with n pins, of which number i is named by the number (i * step) % names.
+//                                  Its index is built: a sum of its bytes. The pin that the number `put` names is looked for. The entry
+//                                  at `odd` is made the one at `put`, and the index is checked. Each is three bytes, the lowest first:
+//                                  n, step, names, odd, put
 //   n TEXT FILE INDEX ASKED..      many look-ups in one call; what is asked is how many bytes the buffer of the answers has, in four digits, the
 //                                  queries, `:`, and the block of names as a text: the buffer afterwards, which was filled with `~`, and the `at`
 //                                  that each query is answered by a look-up of its own
-//   m NUMBERS                      a long text, of one macro with n pins, of which number i is named by the number (i * step) % names.
-//                                  Its index is built: a sum of its bytes. The pin that the number `put` names is looked for. Every pin
-//                                  is looked for, in one call: a sum of the answers' bytes. The entry at `odd` is made the one at `put`, and
-//                                  the index is checked. Each is three bytes, the lowest first: n, step, names, odd, put
+//   l NUMBERS                      what `m` does, and between finding and checking every pin is looked for, in one call: a sum of the answers'
+//                                  bytes
 #![tactic(auto)]
 
 use entry::Entry;
@@ -45,7 +47,8 @@ fn line(part: &[u8]) {
     }
     let letter = part[0];
     match letter {
-        b'm' => long::made(&part[1..]),
+        b'm' => long::made(&part[1..], false),
+        b'l' => long::made(&part[1..], true),
         _ => given(letter, &part[1..]),
     }
     say::newline();
