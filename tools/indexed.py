@@ -1,4 +1,4 @@
-"""What the program indexes has to print, by the model, line by line from what it is given."""
+"""What the programs indexes and netlists have to print, by the model, line by line from what it is given."""
 import functools
 
 import form

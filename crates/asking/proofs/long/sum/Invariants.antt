@@ -1,7 +1,7 @@
 -- `indexes::long::sum` stays within the bytes, and its sum is a remainder.
 use Prim.Native.Nat.{◌-◌, ◌≤◌, ◌<◌}
 use lib.ListN.{length}
-use Rattle.indexes.proofs.long.sum.Given as goal
+use Rattle.asking.proofs.long.sum.Given as goal
 
 abbrev pub invariant-loop-i : goal.invariant-loop-i
 invariant-loop-i l = (l.i ≤ length l.bytes) × (l.s < 16777213)

@@ -1,7 +1,7 @@
 -- `indexes::many::each` ends: each turn is one query further.
 use Prim.Native.Nat.{◌-◌, ◌≤◌}
 use lib.ListN.{length}
-use Rattle.indexes.proofs.many.each.Given as goal
+use Rattle.asking.proofs.many.each.Given as goal
 
 abbrev pub invariant-loop-i : goal.invariant-loop-i
 invariant-loop-i l = l.i ≤ length l.queries

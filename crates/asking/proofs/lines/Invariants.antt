@@ -1,7 +1,7 @@
 -- `indexes::lines` ends: each line leaves less of the input.
 use Prim.Native.Nat.{◌+◌, ◌-◌, ◌≤◌}
 use lib.ListN.{length}
-use Rattle.indexes.proofs.lines.Given as goal
+use Rattle.asking.proofs.lines.Given as goal
 
 abbrev pub invariant-loop-at : goal.invariant-loop-at
 invariant-loop-at l = l.at ≤ length l.input + 1

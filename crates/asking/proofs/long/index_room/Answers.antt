@@ -2,7 +2,7 @@
 use mathlib.Core.Path.{sym}
 use Prim.Native.Nat.{ℕ}
 use lib.ListN.{length-replicate}
-use Rattle.indexes.proofs.long.index_room.Goals as goal
+use Rattle.asking.proofs.long.index_room.Goals as goal
 
 pub returns : goal.returns
 returns c =
