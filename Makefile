@@ -3,7 +3,7 @@
 # make uninstall   removes what was installed; the folders stay
 # make check       tries the library from C, the command and the installing (border/run)
 # make demo        shows what the library does (tools/demo)
-# make clean       removes what was built; the proofs, and liblef.a with them, stay in target/
+# make clean       removes what was built; what is proved stays in crates/*/out, and liblef.a in target/staticlib
 #
 # DESTDIR is put before every place that is written to, and stands in no file. For a shared library in a folder of the system, as
 # /usr/local/lib, run ldconfig afterwards.
@@ -62,4 +62,4 @@ demo:
 
 clean:
 	rm -f target/lef target/lef.x86-64 target/liblef.so.* target/liblef.map target/lef.pc target/built target/begun target/INV_X1.svg
-	@echo "the proofs in target/ stay, and target/staticlib/liblef.a with them"
+	@echo "what is proved stays in crates/*/out, and target/staticlib/liblef.a with it"

@@ -14,10 +14,10 @@ def archive(scratch):
         out = os.path.join(scratch, "liblef.a")
         subprocess.run(["sh", os.path.join(root, "tools/native"), "lef", out], check=True)
         return out
-    done = subprocess.run(["rt", "staticlib", "lef"], cwd=root, stdout=subprocess.PIPE, stderr=subprocess.STDOUT, text=True, errors="replace")
+    done = subprocess.run(["rt", "lib"], cwd=os.path.join(root, "crates/lef_c"), stdout=subprocess.PIPE, stderr=subprocess.STDOUT, text=True, errors="replace")
     if done.returncode:
-        sys.exit("%srt staticlib lef: ended with %d" % ("".join(line + "\n" for line in done.stdout.splitlines()[-20:]), done.returncode))
-    return os.path.join(root, "target/staticlib/liblef.a")
+        sys.exit("%srt lib in crates/lef_c: ended with %d" % ("".join(line + "\n" for line in done.stdout.splitlines()[-20:]), done.returncode))
+    return os.path.join(root, "crates/lef_c/out/liblef_c.a")
 
 
 def program(source, archive, scratch):

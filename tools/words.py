@@ -2,7 +2,7 @@
 """words.py: writes what follows from the word lists of crates/word/specs/Words.antt: the stems, keys and counts of specs/Lookup.antt,
 the numbers of src/names.rt, the arms of src/nodes.rt, src/spelling.rt and src/letters.rt, and the answers to them in proofs/nodes, proofs/spelling
 and proofs/letters; the arms of src/slots.rt, and in src/lib.rt the slot of a name, by shifts that a search finds.
-Run at the repository's root after a change of those lists, then `rt fmt`. The proofs, and not this script, say that the tables are right."""
+Run at the repository's root after a change of those lists, then `rt fmt` in crates/word. The proofs, and not this script, say that the tables are right."""
 import itertools
 import re
 
@@ -63,15 +63,6 @@ def replaced(path, start, stop, middle):
     open(path, "w").write(text[:a] + middle + text[b:])
 
 
-def answered(path, opened, arms):
-    """The answers to the arms: each is by its key or number, which names the goal, and the one for no arm stands as it is."""
-    text = open(path).read()
-    a = text.index("pub returns-in")
-    b = text.index("pub returns-in_default")
-    one = "pub returns-in-%d : goal.returns-in-%d\nunfolding " + opened + "\nreturns-in-%d c =\n    %s _ c.in-%d.is refl\n\n"
-    open(path, "w").write(text[:a] + "".join(one % (k, k, k, law, k) for k, law in arms) + text[b:])
-
-
 replaced(LOOKUP, "\nstems =\n", "\n\n", rows(['"%s" ∷' % s for s in stems] + ["[]"], 140))
 replaced(LOOKUP, "\nkeyed =\n", "\n\n", rows(["0x%x ∷" % key(w) for w in nodes] + ["[]"], 140))
 replaced(LOOKUP, "\nword_count = ", "\n", str(len(words)))
@@ -81,7 +72,18 @@ with open(NAMES, "w") as f:
     f.write("pub const KEYS: u8 = %d;\n\npub const WORDS: u8 = %d;\n\n" % (len(keys), len(words)))
     f.write("\n".join("pub const %s: u8 = %d;\n" % (w, k) for k, w in enumerate(words, 1)))
 replaced(NODES, "    match key {\n", "        _ => 0,", "".join("        0x%x => %d,\n" % (key(w), k) for k, w in enumerate(nodes, 1)))
-answered(PROOF, "keyed place_in next_of", [(key(w), "at_key") for w in nodes])
+
+
+def answered(proof, arms, by):
+    """The answers to the arms of a `match`, named by what they match, before the one to all else."""
+    text = open(proof).read()
+    first, last = text.index("\npub returns-in-"), text.index("\npub returns-in_default")
+    opened = re.search(r"\n(unfolding .*)\n", text[first:])[1]
+    answer = "\npub returns-in-{0} : goal.returns-in-{0}\n{1}\nreturns-in-{0} c =\n    {2} _ c.in-{0}.is refl\n"
+    open(proof, "w").write(text[:first] + "".join(answer.format(arm, opened, by) for arm in arms) + text[last:])
+
+
+answered(PROOF, map(key, nodes), "at_key")
 
 
 def spelt(module, name, form, numbers):
@@ -93,7 +95,7 @@ def spelt(module, name, form, numbers):
     replaced(SPELT % module, start, "        _ => 0,", "".join("        %d => %s,\n" % arm for arm in arms))
     proof = SPELT_PROOF % (module, name)
     replaced(proof, "\nlisted =\n", "\n\n", rows(["%d ∷" % k for k, _ in arms] + ["[]"], 140))
-    answered(proof, "keys values words spelling" + (" number" if name != "count" else ""), [(k, "at_word what") for k, _ in arms])
+    answered(proof, [k for k, _ in arms], "at_word what")
 
 
 def number_of(letters):
