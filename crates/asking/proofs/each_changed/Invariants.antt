@@ -1,4 +1,4 @@
--- `indexes::each_changed` ends: each turn changes one byte and puts it back.
+-- `asking::each_changed` ends: each turn changes one byte and puts it back.
 use Prim.Native.Nat.{◌-◌, ◌≤◌}
 use mathlib.Core.Path.{◌≡◌}
 use lib.ListN.{length}

@@ -1,4 +1,4 @@
--- `indexes::lines` ends: each line leaves less of the input.
+-- `asking::lines` ends: each line leaves less of the input.
 use Prim.Native.Nat.{◌+◌, ◌-◌, ◌≤◌}
 use lib.ListN.{length}
 use Rattle.asking.proofs.lines.Given as goal

@@ -1,4 +1,4 @@
--- `indexes::pick` ends: each turn picks one entry.
+-- `asking::pick` ends: each turn picks one entry.
 use Prim.Native.Nat.{◌-◌, ◌≤◌}
 use mathlib.Core.Path.{◌≡◌}
 use lib.ListN.{length}

@@ -1,4 +1,4 @@
--- `indexes::questions` ends: each question leaves less of the fields.
+-- `asking::questions` ends: each question leaves less of the fields.
 use Prim.Native.Nat.{◌+◌, ◌-◌, ◌≤◌}
 use mathlib.Core.Path.{◌≡◌}
 use lib.ListN.{length}

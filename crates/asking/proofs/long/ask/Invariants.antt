@@ -1,4 +1,4 @@
--- `indexes::long::ask` ends after n queries.
+-- `asking::long::ask` ends after n queries.
 use Prim.Native.Nat.{◌-◌, ◌≤◌}
 use mathlib.Core.Path.{◌≡◌}
 use lib.ListN.{length}

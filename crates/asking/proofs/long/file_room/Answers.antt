@@ -1,4 +1,4 @@
--- `indexes::long::file_room` has as many bytes as its type says, by the law on the length of a repetition.
+-- `asking::long::file_room` has as many bytes as its type says, by the law on the length of a repetition.
 use mathlib.Core.Path.{sym}
 use Prim.Native.Nat.{ℕ}
 use lib.ListN.{length-replicate}

@@ -1,4 +1,4 @@
--- `indexes::long::pins` ends after n pins.
+-- `asking::long::pins` ends after n pins.
 use Prim.Native.Nat.{◌-◌, ◌≤◌, ◌<◌}
 use mathlib.Core.Path.{◌≡◌}
 use lib.ListN.{length}

@@ -1,4 +1,4 @@
--- `indexes::long::sum` stays within the bytes, and its sum is a remainder.
+-- `asking::long::sum` stays within the bytes, and its sum is a remainder.
 use Prim.Native.Nat.{◌-◌, ◌≤◌, ◌<◌}
 use lib.ListN.{length}
 use Rattle.asking.proofs.long.sum.Given as goal

@@ -1,4 +1,4 @@
--- `indexes::long::word` ends: each turn is one byte further.
+-- `asking::long::word` ends: each turn is one byte further.
 use Prim.Native.Nat.{◌-◌, ◌≤◌}
 use mathlib.Core.Path.{◌≡◌}
 use lib.ListN.{length}

@@ -1,4 +1,4 @@
--- `indexes::many::each` ends: each turn is one query further.
+-- `asking::many::each` ends: each turn is one query further.
 use Prim.Native.Nat.{◌-◌, ◌≤◌}
 use lib.ListN.{length}
 use Rattle.asking.proofs.many.each.Given as goal
