@@ -75,14 +75,14 @@ def files():
     expect("a record", lef.records(VIA_BYTES), [VIA])
     expect("its bytes", lef.pack([VIA]), VIA_BYTES)
     expect("no records", lef.records(b""), [])
-    refused(13, 37, 0, "refused 13 (record bytes not a multiple of 36, index bytes not of 16, or query bytes not of 12): 37 bytes", lef.records, VIA_BYTES + b"0")
+    refused(13, 37, 0, "refused 13 (record bytes not a multiple of 36, or index bytes not of 16): 37 bytes", lef.records, VIA_BYTES + b"0")
     expect("a name", Record(Kind.PIN, 0, 0, 0, 4, 3, 0, 0).name(b"PIN abc"), b"abc")
     expect("a name that reaches outside", Record(Kind.PIN, 0, 0, 0, 4, 4, 0, 0).name(b"PIN abc"), b"")
     expect("an entry", lef.entries(bytes(range(1, 17))), [Entry(0x04030201, 0x08070605, 0x0C0B0A09, 0x100F0E0D)])
     expect("where its fields start", ENTRY_OFFSETS, [0, 4, 8, 12])
     expect("where a query's fields start", QUERY_OFFSETS, [0, 4, 8])
     expect("its name", (Entry(0, 4, 3, 0).name(b"PIN abc"), Entry(0, 4, 4, 0).name(b"PIN abc")), (b"abc", b""))
-    refused(13, 17, 0, "refused 13 (record bytes not a multiple of 36, index bytes not of 16, or query bytes not of 12): 17 bytes", lef.entries, bytes(17))
+    refused(13, 17, 0, "refused 13 (record bytes not a multiple of 36, or index bytes not of 16): 17 bytes", lef.entries, bytes(17))
 
 
 def arrays():
@@ -97,7 +97,7 @@ def arrays():
     for name in Record._fields:
         expect("field " + name, a[name].tolist(), 2 * [getattr(VIA, name)])
     expect("an empty array", lef.array(b"").shape, (0,))
-    refused(13, 35, 0, "refused 13 (record bytes not a multiple of 36, index bytes not of 16, or query bytes not of 12): 35 bytes", lef.array, VIA_BYTES[1:])
+    refused(13, 35, 0, "refused 13 (record bytes not a multiple of 36, or index bytes not of 16): 35 bytes", lef.array, VIA_BYTES[1:])
     file = lef.read_bytes(of_repository("sample", "cells.lef"))
     expect("the sample's array", [Record(*(int(row[name]) for name in Record._fields)) for row in lef.array(file)], lef.records(file))
 
@@ -134,7 +134,7 @@ def checking():
     refused(14, 2, 0, foreign, lef.check, SITE, changed)
     refused(14, 2, 0, foreign, lef.check, SITE, twice)
     refused(15, 20, 0, lacking, lef.check, SITE, lef.pack(RECORDS[:2]))
-    refused(13, 107, 0, "refused 13 (record bytes not a multiple of 36, index bytes not of 16, or query bytes not of 12): 107 bytes", lef.check, SITE, lef.pack(RECORDS)[:-1])
+    refused(13, 107, 0, "refused 13 (record bytes not a multiple of 36, or index bytes not of 16): 107 bytes", lef.check, SITE, lef.pack(RECORDS)[:-1])
     refused(3, 0, 1, "refused 3 (byte starts no token) at byte 0, line 1", lef.check, b"@", b"0")
     expect("write", lef.write(SITE, lef.pack(reversed(RECORDS))), WRITTEN)
     expect("no records to write", lef.write(b" END LIBRARY", b""), b"END LIBRARY\n")
@@ -177,7 +177,7 @@ def finding():
     for call, more in (lef.check_index, ()), (lef.find, (0, b"a")), (lef.find_many, ([(0, b"a")],)), (lef.find_many, ([],)):
         refused(16, 0, 0, differs + "0", call, NAMES, file, swapped, *more)
         refused(16, 6, 0, differs + "6", call, NAMES, file, index[:-16], *more)
-        refused(13, 111, 0, "refused 13 (record bytes not a multiple of 36, index bytes not of 16, or query bytes not of 12): 111 bytes", call, NAMES, file, index[1:], *more)
+        refused(13, 111, 0, "refused 13 (record bytes not a multiple of 36, or index bytes not of 16): 111 bytes", call, NAMES, file, index[1:], *more)
         refused(15, 0, 0, "refused 15 (record lacking): that of the statement at byte 0", call, NAMES, b"", index, *more)
         refused(3, 0, 1, "refused 3 (byte starts no token) at byte 0, line 1", call, b"@", file, index, *more)
     refused(14, 0, 0, "refused 14 (record foreign, or equal to an earlier one): record 0", lef.index, NAMES, lef.pack([VIA]))

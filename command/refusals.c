@@ -11,8 +11,8 @@ static const char *why(uint64_t number, int is_unread) {
     static const char *const WHY[] = {
         "done", "text over 16,777,216 bytes", "a byte above 127", "byte starts no token", "wrong kind of token, or end",
         "word not a key here", "value not allowed", "another word required", "known, not supported", "numeral", "SITE lacks CLASS or SIZE",
-        "record, index or answer buffer too small", "text buffer too small",
-        "record bytes not a multiple of 36, index bytes not of 16, or query bytes not of 12", "record foreign, or equal to an earlier one", "record lacking",
+        "record or index buffer too small", "text buffer too small",
+        "record bytes not a multiple of 36, or index bytes not of 16", "record foreign, or equal to an earlier one", "record lacking",
         "index differs from the one that would be built",
     };
     return is_unread ? "LEF that this library does not read" : number < sizeof WHY / sizeof *WHY ? WHY[number] : "?";

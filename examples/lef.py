@@ -105,13 +105,13 @@ class Number(enum.IntEnum):
 WORDS = (
     "done", "text over 16,777,216 bytes", "a byte above 127", "byte starts no token", "wrong kind of token, or end", "word not a key here",
     "value not allowed", "another word required", "known, not supported", "numeral", "SITE lacks CLASS or SIZE",
-    "record, index or answer buffer too small", "text buffer too small",
-    "record bytes not a multiple of 36, index bytes not of 16, or query bytes not of 12", "record foreign, or equal to an earlier one",
+    "record or index buffer too small", "text buffer too small",
+    "record bytes not a multiple of 36, or index bytes not of 16", "record foreign, or equal to an earlier one",
     "record lacking", "index differs from the one that would be built",
 )
 PLACES = {
     Number.TOO_LONG: "",
-    Number.RECORD_ROOM: ": {} records, entries or answers",
+    Number.RECORD_ROOM: ": {} records or entries",
     Number.TEXT_ROOM: ": {} bytes",
     Number.NOT_WHOLE: ": {} bytes",
     Number.WRONG_RECORD: ": record {}",

@@ -174,7 +174,7 @@ def entry(text):
     return "refused %d at %d" % answer[:2] if answer.number else "read"
 
 
-LINES = {"replay": replay, "checks": checks, "writes": writes, "lookups": lookups, "indexes": indexes}
+LINES = {"replay": replay, "checks": checks, "writes": writes, "lookups": lookups, "indexes": indexes, "netlists": indexes}
 
 
 def pairs(program):

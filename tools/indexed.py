@@ -1,4 +1,4 @@
-"""What the program indexes has to print, by the model, line by line from what it is given."""
+"""What the programs indexes and netlists have to print, by the model, line by line from what it is given."""
 import functools
 
 import form
@@ -54,28 +54,30 @@ def summed(data):
     return functools.reduce(lambda s, b: (31 * s + b) % 16777213, data, 0)
 
 
-def long_index(n, step, names, odd, put):
+def long_index(n, step, names, odd, put, every):
     """The index of one macro with n pins, of which number i is named by (i * step) % names: the answer of building it and a sum of its
-    bytes, where the first pin is that `put` names, the answer of asking for every pin and for one more and a sum of what is answered, and the
-    check after the entry at `odd` was made the one at `put`."""
+    bytes, where the first pin is that `put` names, for `every` the answer of asking for every pin and for one more in one call and a sum of
+    what is answered, and the check after the entry at `odd` was made the one at `put`."""
     named = lambda k: b"p" + bytes(97 + (k >> bits) % 16 for bits in (12, 8, 4, 0))
     text = b"MACRO m\n" + b"".join(b"PIN %s END %s\n" % (2 * (named(i * step % names),)) for i in range(n)) + b"END m\nEND LIBRARY\n"
     file = model.pack(model.reading(text))
     answer, index = model.build(text, file, len(file))
-    asked = b"".join(model.QUERY.pack(0, 12 + 20 * i, 5) for i in range(n + 1))
-    told, ats = model.find_many(text, file, index, text, asked, 4 * (n + 1))
+    parts = [numbers((*answer, summed(index))), found(text, file, index, 0, named(put))]
+    if every:
+        asked = b"".join(model.QUERY.pack(0, 12 + 20 * i, 5) for i in range(n + 1))
+        told, ats = model.find_many(text, file, index, text, asked, 4 * (n + 1))
+        parts.append(numbers((*told, summed(ats))))
     held = model.entries(index)
     held[odd] = held[put]
-    parts = (numbers((*answer, summed(index))), found(text, file, index, 0, named(put)), numbers((*told, summed(ats))),
-             numbers(model.consult(text, file, b"".join(held))))
+    parts.append(numbers(model.consult(text, file, b"".join(held))))
     return "".join(";" + p for p in parts)
 
 
 def indexes(line):
     letter, fields = line[0], line[1:].split("|")
-    if letter == "m":
+    if letter in "ml":
         given = bytes.fromhex(fields[0])
-        return long_index(*(int.from_bytes(given[i : i + 3], "little") for i in range(0, 15, 3)))
+        return long_index(*(int.from_bytes(given[i : i + 3], "little") for i in range(0, 15, 3)), letter == "l")
     text, file = form.data(fields[0]), bytes.fromhex(fields[1])
     if letter == "b":
         return "".join(";" + built(text, file, int(room, 16)) for room in fields[2:])

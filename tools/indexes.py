@@ -1,7 +1,8 @@
 #!/usr/bin/env python3
-"""indexes.py: writes what crates/indexes replays (stdin) and the answers that it has to print (stdout): questions on building an index, on
-checking one and on finding by it, one name or many, and the answers that the model of the rules gives, which shares nothing with the library.
-indexes.py --check: are the stored lines those made here, and does the model confirm the stored answers?
+"""indexes.py: writes what crates/indexes and crates/netlists replay (stdin) and the answers that they have to print (stdout): questions on
+building an index, on checking one and on finding by it, and of netlists on many look-ups in one call; and the answers that the model of the
+rules gives, which shares nothing with the library. indexes.py --check: are the stored lines those made here, and does the model confirm the
+stored answers?
 
 An index that is asked about is most often picked, entry by entry, from a pool: the entries of the right index, and foreign ones."""
 import random
@@ -203,6 +204,13 @@ for text, said in form.readings():
         letter, field = rng.choice((("b", "0010"), ("c", ""), ("c", "00")))
         ask(letter, text, bytes(rng.choice((0, 1, SIZE))), field)
 
+# ---- long texts
+LONG_TEXTS = [b"".join(v.to_bytes(3, "little") for v in given).hex() for given in (
+    (1, 0, 1, 0, 0), (2, 1, 2, 1, 0), (1000, 1, 1000, 500, 499), (1000, 999, 1000, 999, 0), (1000, 0, 1, 1, 0), (1000, 7, 10, 300, 9),
+    (4096, 1023, 4096, 2048, 4095), (20000, 7919, 20000, 19999, 12345), (20000, 7919, 20000, 7, 7))]
+asked += (form.line("m", given) for given in LONG_TEXTS)
+alone, asked = asked, []
+
 # ---- many look-ups in one call
 def ask_many(text, rows, index, questions):
     ask("n", text, mixed(rows), index.hex(), *questions)
@@ -228,12 +236,10 @@ for _ in range(40):
 for text, said in form.readings():
     if said.startswith("refusal ") and rng.random() < 0.1:
         ask("n", text, bytes(rng.choice((0, 1, SIZE))), bytes(rng.choice((0, 1, ENTRY.size))).hex(), rng.choice(queries.FAULTS))
+asked += (form.line("l", given) for given in LONG_TEXTS)
 
-# ---- long texts
-for given in ((1, 0, 1, 0, 0), (2, 1, 2, 1, 0), (1000, 1, 1000, 500, 499), (1000, 999, 1000, 999, 0), (1000, 0, 1, 1, 0), (1000, 7, 10, 300, 9),
-              (4096, 1023, 4096, 2048, 4095), (20000, 7919, 20000, 19999, 12345), (20000, 7919, 20000, 7, 7)):
-    asked.append(form.line("m", b"".join(v.to_bytes(3, "little") for v in given).hex()))
-
+BOTH = ("indexes", alone), ("netlists", asked)
 if sys.argv[1:] == ["--check"]:
-    sys.exit(not answers.checked("indexes", asked))
-form.store("indexes", asked, [answers.indexes(q) for q in asked])
+    sys.exit(not all([answers.checked(program, lines) for program, lines in BOTH]))
+for program, lines in BOTH:
+    form.store(program, lines, [answers.indexes(q) for q in lines])

@@ -1,5 +1,5 @@
 -- Inner machinery, which nobody has to believe: how far two names go together.
-use Rattle.std.specs.Prelude.{ℕ, zero, suc, cond, List, [], ◌∷◌, eqb}
+use Rattle.std.specs.Prelude.{ℕ, suc, cond, List, [], ◌∷◌, eqb}
 
 -- how many bytes from the front on two names have in common
 unfoldable pub common : List ℕ → List ℕ → ℕ

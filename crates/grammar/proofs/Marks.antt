@@ -223,7 +223,7 @@ module _ {A M : Type 0} (R : ℕ → M → Type 0) where
   turn_turned v (f ∷ fs) a h =
       applied_turned v f fs (turn body v fs a) (turn_turned v fs a h) (step v f a (body f.block)) (step_stepped v f a h (body f.block) (any_fits f.block))
 
-  -- R holds of the refusal of an outcome; 0 is none (`never-short`)
+  -- R holds of the refusal of an outcome; 0 is none (`never_short`)
   abbrev pub Stops : Outcome M (Rec A) → Type 0
   Stops (read rs) = Unit {0}
   Stops (stopped n m) = 3 ≤ n → R n m

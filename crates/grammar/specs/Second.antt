@@ -1,5 +1,5 @@
 -- Inner machinery, which nobody has to believe: the second word asked for by the list of the kind's values, as the code asks.
--- proofs/Second.antt proves it equal to `parse-second`.
+-- proofs/Second.antt proves it equal to `parse_second`.
 use Rattle.std.specs.Prelude.{ℕ, Bool, false, cond, not, ◌&&◌, ◌||◌, List, [], ◌∷◌, eqb}
 use Rattle.lexer.specs.Kinds as Kind
 use Rattle.word.specs.Words.{word}

@@ -134,7 +134,7 @@ module _ (body : Block → Body) where
   turn v [] a = done
   turn v (f ∷ fs) a = applied v f fs (turn v fs a) (step v f a (body f.block))
 
-  -- Turns, at most so many. Each takes a token, so as many as there are tokens suffice (`never-short`).
+  -- Turns, at most so many. Each takes a token, so as many as there are tokens suffice (`never_short`).
   unfoldable pub turns : {A M : Type 0} → ℕ → State A → Ahead A M → Outcome M (Rec A)
   turns zero s a = stopped 0 a.held.mark
   turns (suc n) s a = elim (turn s.version s.blocks a) [

@@ -154,13 +154,7 @@ pub fn lef_owners(
 }
 
 // The name of the record at the index, as a span of the text.
-pub fn lef_name(
-    text: &[u8],
-    records: &[u8],
-    index: u64,
-    start: &mut u64,
-    len: &mut u64,
-) -> u64
+pub fn lef_name(text: &[u8], records: &[u8], index: u64, start: &mut u64, len: &mut u64) -> u64
     ensures value { result ≡ 0 }
     ensures start_after { start.new ≡ (name_span text.now records.now index).start }
     ensures len_after { len.new ≡ (name_span text.now records.now index).len }

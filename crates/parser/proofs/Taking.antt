@@ -19,12 +19,12 @@ use Rattle.word.specs.Words.{same, word_of, word, is_key}
 use Rattle.word.specs.Codes.{code_of, values_of}
 use Rattle.grammar.specs.Grammar.{Item, key, keyword, name, own, x, y, semi, value, first, first_key, second, string, code, if_more, no_name, among, whole}
 use Rattle.grammar.specs.Tokens.{Tok, Ahead, Answer, ok, refused, then, next_token, expect}
-use Rattle.grammar.specs.Engine.{Frame, Draft, get_name, get_key, expect_key, expect_keyword, expect_ident, valued, parse_number, coded, parse_enum, begins, item, passed}
+use Rattle.grammar.specs.Engine.{Frame, Draft, get_name, get_key, expect_key, expect_keyword, expect_ident, valued, parse_number, parse_enum, begins, item, passed}
 use Rattle.grammar.specs.Reading.{Mark}
 use Rattle.rows.specs.Packed.{key_at, item_at}
 use Rattle.parser.specs.declared.take.Taken.{Taken}
 use Rattle.parser.specs.declared.take.Taken.TheVariants as N
-use Rattle.parser.specs.Code.{ahead_of, Took, refuse, as_taken}
+use Rattle.parser.specs.Code.{Took, refuse, as_taken}
 
 -- what the code's answer says of taking
 module _ (s : List ℕ) (h : Token) (a : Ahead ℕ Mark) (o : Taken) (e : as_taken s h o ≡ next_token a) where

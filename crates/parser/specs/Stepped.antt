@@ -2,7 +2,6 @@
 -- The image `as_step` forgets nothing of an answer but how a number says what a record does to the open blocks.
 use Rattle.std.specs.Prelude.{ℕ, ◌%◌, ◌-◌, ◌≤◌, ◌≡◌, cond, List, [], eqb}
 use Rattle.lexer.specs.declared.Token.{Token}
-use Rattle.record.specs.declared.Record.{Record}
 use Rattle.parser.specs.declared.open.Frame.{Frame}
 use Rattle.parser.specs.declared.step.Chosen.{Chosen}
 use Rattle.parser.specs.declared.step.Chosen.TheVariants as C

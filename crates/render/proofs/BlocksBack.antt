@@ -9,7 +9,7 @@ use Rattle.grammar.specs.Tokens.{Ahead}
 use Rattle.grammar.specs.Grammar.{Body, keyed, worded, options, parts, counted}
 use Rattle.grammar.specs.Table.{body}
 use Rattle.grammar.specs.Engine.{Maybe, none, some, Frame}
-use Rattle.grammar.specs.Turns.{ends, state, turn}
+use Rattle.grammar.specs.Turns.{state}
 use Rattle.grammar.specs.Reading.{Mark}
 use Rattle.grammar.proofs.Falls.{read_on}
 use Rattle.render.specs.Pieces.{Said, tokens}

@@ -15,11 +15,11 @@ use Rattle.grammar.specs.Grammar.{Move, Body, keyed, worded, options, parts, cou
 use Rattle.grammar.specs.Table.{body}
 use Rattle.grammar.specs.Engine.{Maybe, none, some, Rec, Frame}
 use Rattle.grammar.specs.Standing.{Every}
-use Rattle.grammar.specs.Turns.{Step, gives, ends, goes, backs, halts, step, State, state, label_of, shift, become, Outcome, read, stopped, more, turn}
+use Rattle.grammar.specs.Turns.{Step, gives, ends, goes, backs, halts, step, State, state, label_of, shift, become, Outcome, read, stopped, more}
 use Rattle.grammar.specs.Reading.{Mark}
 use Rattle.grammar.proofs.Kept.{all}
 use Rattle.grammar.proofs.Turned.{Turned, turn_turned, Reads}
-use Rattle.grammar.proofs.Falls.{read_on, falls_emit, falls_moved, after}
+use Rattle.grammar.proofs.Falls.{read_on, falls_emit, falls_moved}
 use Rattle.grammar.proofs.Rises.{Owned, owned}
 use Rattle.render.specs.Lines.{same, owns, on_line}
 use Rattle.render.specs.Fit.{all_end, fit_from}

@@ -13,7 +13,7 @@ use Rattle.grammar.specs.Tokens.{Tok, Ahead, bad}
 use Rattle.grammar.specs.Engine.{Rec}
 use Rattle.grammar.specs.Standing.{Every, Rising, places_of}
 use Rattle.grammar.specs.Turns.{read, stopped}
-use Rattle.grammar.specs.Reading.{Mark, tok, ahead, filed, start, read_ahead, records, reading}
+use Rattle.grammar.specs.Reading.{Mark, tok, ahead, filed, start, read_ahead}
 use Rattle.grammar.proofs.Kept.{all}
 use Rattle.grammar.proofs.Falls.{read_on}
 use Rattle.grammar.proofs.Places.{places_rise}

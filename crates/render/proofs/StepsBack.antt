@@ -14,12 +14,12 @@ use Rattle.word.proofs.Words.{both, same_eq}
 use Rattle.grammar.specs.Tokens.{Tok, Ahead, Answer, ok, refused, then, next_token, matches, bad}
 use Rattle.grammar.specs.Grammar.{Item, Move, stay, Act, statement, close, refuse, back, up_to54, Row, Body, keyed, worded, options, parts, counted}
 use Rattle.grammar.specs.Table.{body}
-use Rattle.grammar.specs.Engine.{none, some, Rec, Draft, Frame, blank, get_name, items, empty}
+use Rattle.grammar.specs.Engine.{some, Rec, Draft, Frame, blank, get_name, items, empty}
 use Rattle.grammar.specs.Turns.{Step, gives, given, perform, peek_key, judged, step}
 use Rattle.grammar.specs.Reading.{Mark}
 use Rattle.render.specs.Pieces.{Said, said}
 use Rattle.render.specs.Plain.{Plain}
-use Rattle.render.specs.Says.{semicolon, says, says_all, holds_all, gives_all}
+use Rattle.render.specs.Says.{says_all, holds_all, gives_all}
 use Rattle.render.specs.Forms.{Form, form, row_forms, forms_in, form_for, begins, said_in}
 use Rattle.render.specs.Fit.{emptied, alike, suits, has_room}
 use Rattle.render.proofs.Forms.{form_kind, form_only}

@@ -8,7 +8,6 @@ use Rattle.record.specs.declared.Record.{Record}
 use Rattle.lexer.specs.Lex.{from}
 use Rattle.lexer.specs.Screen.{limit}
 use Rattle.word.proofs.Words.{both}
-use Rattle.grammar.specs.Turns.{read}
 use Rattle.grammar.specs.Reading.{ahead, filed, start, records, reading}
 use Rattle.grammar.specs.Standing.{places_of}
 use Rattle.render.specs.Pieces.{text, tokens}

@@ -4,7 +4,7 @@ use mathlib.Core.Path.{◌≡◌, refl, sym, ◌∙◌}
 use mathlib.Core.List.{List, [], ◌∷◌}
 use Rattle.grammar.specs.Grammar.{Item, key, keyword, name, own, x, y, semi, value, first, first_key, second, string, code, if_more, no_name, among, whole}
 use Rattle.render.specs.Plain.{Plain, renamed}
-use Rattle.render.specs.Says.{says, shows, any, omitted, says_all, holds, holds_all, gives, gives_all}
+use Rattle.render.specs.Says.{says, shows, any, omitted, says_all, holds_all, gives, gives_all}
 use Rattle.render.specs.Forms.{Form, is_of, form_for, said_in}
 use Rattle.render.proofs.Fields.{part, Judged, alike}
 use Rattle.render.proofs.OmittedRead.{by_part}

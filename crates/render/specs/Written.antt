@@ -1,5 +1,5 @@
 -- WRITING: what it answers, and what it leaves in the buffer.
-use Rattle.std.specs.Prelude.{ℕ, Bool, cond, ◌&&◌, List, [], ◌++◌, leb, eqb, length, drop}
+use Rattle.std.specs.Prelude.{ℕ, Bool, cond, List, [], ◌++◌, leb, eqb, length, drop}
 use Rattle.refusal.specs.declared.Refusal.{Refusal}
 use Rattle.refusal.specs.Table.{refused, done, text_room}
 use Rattle.grammar.specs.Reading.{Reading, records, refusal_of, reading}

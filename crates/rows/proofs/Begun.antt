@@ -1,13 +1,13 @@
 -- The word of the first row that gives records of a kind: found among the rows before, or else among those after.
 use Prim.Native.Nat.{ℕ}
 use mathlib.Core.Path.{◌≡◌, refl, sym, ap, ◌∙◌}
-use mathlib.Core.Bool.{Bool, true, false, cond, not, ◌&&◌, ◌||◌}
+use mathlib.Core.Bool.{Bool, true, false, cond, not, ◌&&◌}
 use mathlib.Core.List.{List, [], ◌∷◌, ◌++◌}
-use borrow.Author.Tests.{eqb-true, eqb-false, ne_eqb, eq-eqb}
+use borrow.Author.Tests.{eqb-true, ne_eqb, eq-eqb}
 use lib.Dec.{eqb}
 use Rattle.word.specs.Words.{word}
 use Rattle.word.proofs.Words.{clash, both}
-use Rattle.word.proofs.Steps.{Nested, Apart, apart}
+use Rattle.word.proofs.Steps.{Apart}
 use Rattle.grammar.specs.Grammar.{Act, statement, close, refuse, back, up_to54, Row}
 use Rattle.grammar.specs.Engine.{member}
 use Rattle.rows.specs.Packed.{gives, begun_by}

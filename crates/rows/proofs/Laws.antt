@@ -5,7 +5,7 @@ use mathlib.Core.Bool.{Bool, true, false, cond}
 use mathlib.Core.List.{List, [], ◌∷◌}
 use borrow.Author.Tests.{ne_eqb}
 use lib.Dec.{eqb}
-use Rattle.word.specs.Words.{keys, values, words, raised, upper, same, first_where, word_of, word}
+use Rattle.word.specs.Words.{word}
 use Rattle.word.proofs.Steps.{Nested, Apart, apart}
 use Rattle.grammar.specs.Grammar.{Block, Symmetry, Rect, Polygon, Path, Act, refuse, Row, Body, keyed, worded, options, parts, counted}
 use Rattle.grammar.specs.Table.{body}

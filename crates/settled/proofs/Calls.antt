@@ -1,5 +1,5 @@
 -- The calls on texts, record files and indexes: each answer and each buffer is equated with a definition.
--- `name` settles the bytes of the name, and not where they lie: `lef-name` settles that.
+-- `name` settles the bytes of the name, and not where they lie: `lef_name` settles that.
 use mathlib.Core.Path.{refl}
 use Rattle.settled.specs.Settled.{Settles, SettlesSeen}
 use Rattle.settled.proofs.Laws.{same}

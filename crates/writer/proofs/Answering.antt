@@ -11,7 +11,6 @@ use Rattle.refusal.specs.Table.{refused, done, text_room}
 use Rattle.record.specs.declared.Record.{Record}
 use Rattle.grammar.specs.Reading.{Reading, start, records, refusal_of, reading}
 use Rattle.reader.specs.declared.open.State.{State}
-use Rattle.reader.specs.declared.pass.Begun.{Begun}
 use Rattle.reader.specs.declared.pass.Begun.TheVariants as B
 use Rattle.reader.specs.Open.{numbers_of, blocks_of, state_of, Ranked}
 use Rattle.reader.specs.Passed.{read_from, Begins}

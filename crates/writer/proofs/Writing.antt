@@ -18,7 +18,7 @@ use Rattle.reader.proofs.Ranks.{Deeper, deeper_inside, deeper_room, shift_ranked
 use Rattle.render.specs.Pieces.{Piece, text}
 use Rattle.render.specs.Plain.{Plain, bare}
 use Rattle.render.specs.Lines.{form_in, taking, before, statement, entered, end_all, pieces, after, lines}
-use Rattle.render.specs.Fit.{takes, admits, fit_from}
+use Rattle.render.specs.Fit.{admits, fit_from}
 use Rattle.lines.specs.declared.form.Formed.{Formed}
 use Rattle.lines.specs.declared.form.Formed.TheVariants as F
 use Rattle.lines.specs.Put.{Put}

@@ -1,5 +1,4 @@
 -- `check` meets its contract: a text that is refused at its beginning, or the answer from its first state on.
-use borrow.Author.Rules.{rules}
 use Rattle.checker.proofs.Judging.{text_refused, begun_refused, begun_at}
 use Rattle.checker.proofs.check.Goals as goal
 

@@ -1,5 +1,4 @@
 -- `check_from` meets its contract: it is the answer of `compare`.
-use borrow.Author.Rules.{rules}
 use Rattle.checker.proofs.check_from.Goals as goal
 
 pub returns : goal.returns

@@ -1,6 +1,5 @@
 -- `compare` meets its contract: the refusal of the text comes first, and without one the reading gives records.
 use mathlib.Core.Bool.{false≢true}
-use borrow.Author.Rules.{rules}
 use Rattle.checker.proofs.Judging.{text_refused, order_refused, order_same, order_other, judged, judged_held}
 use Rattle.checker.proofs.compare.Goals as goal
 

@@ -1,7 +1,6 @@
 -- `judge` meets its contract: 13 is told by the length, and a file in the reading's order is accepted.
 use mathlib.Core.Path.{sym, ◌∙◌}
 use mathlib.Core.Bool.{false≢true}
-use borrow.Author.Rules.{rules}
 use Rattle.checker.proofs.Judging.{not_whole_says, whole_says, same_held, same_done}
 use Rattle.checker.proofs.judge.Goals as goal
 

@@ -1,5 +1,4 @@
 -- `entry::put` meets its contract: an entry's bytes are a row of 16 bytes.
-use borrow.Author.Rules.{rules}
 use Rattle.entry.proofs.Laws.{encoded_length}
 use Rattle.entry.proofs.put.Goals as goal
 

@@ -1,11 +1,9 @@
 -- `entry::read` meets its contract: the part handed on is the entry's 16 bytes.
 use Prim.Native.Nat.{ℕ, ◌+◌, ◌-◌, ◌*◌}
 use mathlib.Core.Path.{◌≡◌, ap, ◌∙◌}
-use borrow.Author.Rules.{rules}
 use native.Mathlib.Omega.{arith}
 use lib.ListN.{take, drop}
 use Rattle.record.specs.Bytes.{field}
-use Rattle.entry.specs.declared.Entry.{Entry}
 use Rattle.entry.specs.Entries.{entry, decoded}
 use Rattle.entry.proofs.read.Goals as goal
 

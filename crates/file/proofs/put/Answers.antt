@@ -1,5 +1,4 @@
 -- `file::put` meets its contract: a record's bytes are a row of 36 bytes.
-use borrow.Author.Rules.{rules}
 use borrow.Author.Tests.{le-ltb}
 use Rattle.rowfile.specs.Rows.{stored}
 use Rattle.record.proofs.Laws.{encoded_length}

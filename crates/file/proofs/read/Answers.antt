@@ -1,7 +1,6 @@
 -- `file::read` meets its contract: the test is that of `record_at`, and the part handed on is the record's 36 bytes.
 use Prim.Native.Nat.{◌+◌, ◌-◌, ◌*◌}
 use mathlib.Core.Path.{◌≡◌, ap, ◌∙◌}
-use borrow.Author.Rules.{rules}
 use borrow.Author.Tests.{lt-ltb, le-ltb}
 use native.Mathlib.Omega.{arith}
 use lib.ListN.{take, drop}

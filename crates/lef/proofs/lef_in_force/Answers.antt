@@ -1,6 +1,5 @@
 -- `lef_in_force` meets its contract: what is asked for by bytes is what is asked for, and each arm leaves the numbers of its answer.
 use mathlib.Core.Path.{◌≡◌, refl, ◌∙◌}
-use borrow.Author.Rules.{rules}
 use Rattle.lookup.specs.Force.{in_force}
 use Rattle.lef.proofs.Wide.{as_bytes}
 use Rattle.lef.proofs.lef_in_force.Goals as goal

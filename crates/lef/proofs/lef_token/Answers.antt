@@ -1,6 +1,5 @@
 -- `lef_token` meets its contract: each arm leaves the numbers of its answer.
 use mathlib.Core.Path.{sym, ◌∙◌}
-use borrow.Author.Rules.{rules}
 use Rattle.lef.proofs.Tokens.{token_told, refusal_told, screen_told}
 use Rattle.lef.proofs.lef_token.Goals as goal
 

@@ -1,5 +1,4 @@
 -- `first_token` meets its contract: in each arm the screen's answer and the lexer's are the arm's.
-use borrow.Author.Rules.{rules}
 use Rattle.lexer.specs.Answer.{first_token}
 use Rattle.lexer.proofs.first_token.Goals as goal
 

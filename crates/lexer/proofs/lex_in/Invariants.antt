@@ -1,13 +1,9 @@
 -- `lex_in` meets its contract: at each turn the answers from the present place and line are those from the place and line given,
 -- and each arm is a law of its byte's class. What is left of the text grows less.
 use Prim.Native.Nat.{◌-◌}
-use mathlib.Core.Path.{◌≡◌, refl, sym, ◌∙◌}
-use borrow.Author.Rules.{rules}
-use native.Mathlib.Omega.{arith}
+use mathlib.Core.Path.{◌≡◌}
 use lib.ListN.{length}
-use Rattle.lexer.specs.declared.scan.Class.{Class}
 use Rattle.lexer.specs.Lex.{from}
-use Rattle.lexer.proofs.Laws.{At, none, first, at_letter, at_space, at_digit, at_semicolon, at_newline, at_blanks, at_quote, at_hash, at_other}
 use Rattle.lexer.proofs.lex_in.Given as goal
 
 abbrev pub invariant-loop-i : goal.invariant-loop-i

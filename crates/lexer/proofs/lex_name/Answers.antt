@@ -1,5 +1,4 @@
 -- `lex_name` meets its contract by those of `run_past` and `emit`.
-use borrow.Author.Rules.{rules}
 use Rattle.lexer.proofs.lex_name.Goals as goal
 
 pub returns : goal.returns

@@ -2,9 +2,7 @@
 -- A token there ends at the first mark on the eight bytes that follow its first, and all else is the answer of `lex_in`.
 use Prim.Native.Nat.{◌+◌, ◌≤◌}
 use mathlib.Core.Path.{sym, ap, ◌∙◌}
-use mathlib.Core.Logic.{⊎_elim}
 use native.Mathlib.Omega.{arith}
-use borrow.Author.Rules.{rules}
 use borrow.Author.Tests.{leb-true}
 use lib.Count.{trailing_le}
 use lib.ListN.{length}

@@ -1,5 +1,4 @@
 -- `lex_number` meets its contract by those of `number_past` and `emit`.
-use borrow.Author.Rules.{rules}
 use Rattle.lexer.proofs.lex_number.Goals as goal
 
 pub returns : goal.returns

@@ -1,5 +1,4 @@
 -- `lex_string_literal` meets its contract by those of `past_quote` and `emit`.
-use borrow.Author.Rules.{rules}
 use Rattle.lexer.proofs.lex_string_literal.Goals as goal
 
 pub returns : goal.returns

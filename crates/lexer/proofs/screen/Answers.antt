@@ -1,5 +1,4 @@
 -- `screen` meets its contract: at each return the tests that led there, in the order of `screened`, say which case holds.
-use borrow.Author.Rules.{rules}
 use borrow.Author.Tests.{lt-ltb, le-ltb}
 use Rattle.lexer.specs.Screen.{screened}
 use Rattle.lexer.proofs.screen.Goals as goal

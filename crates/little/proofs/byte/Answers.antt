@@ -1,7 +1,6 @@
 -- `little::byte` meets its contract: past the end there is no byte, and nought stands for it.
 use Prim.Native.Nat.{◌+◌}
 use mathlib.Core.Path.{sym}
-use borrow.Author.Rules.{rules}
 use native.Mathlib.Omega.{arith}
 use lib.ListN.{get_or-eq_default}
 use Rattle.little.proofs.byte.Goals as goal

@@ -1,5 +1,4 @@
 -- `little::four` meets its contract: the number of four bytes is their sum, each by its weight.
-use borrow.Author.Rules.{rules}
 use native.Mathlib.Omega.{arith}
 use Rattle.little.proofs.Steps.{four_bytes}
 use Rattle.little.proofs.four.Goals as goal

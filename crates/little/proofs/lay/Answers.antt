@@ -1,11 +1,9 @@
 -- `little::lay` meets its contract: what is laid so far, and the rest of the number laid on from there, come to the whole.
-use Prim.Native.Nat.{suc, ◌+◌, ◌-◌, ◌≤◌}
+use Prim.Native.Nat.{suc, ◌+◌, ◌-◌}
 use mathlib.Core.Path.{◌≡◌, refl}
-use borrow.Author.Rules.{rules}
 use native.Mathlib.Nat.{add-zero, sub-zero}
 use native.Mathlib.Omega.{arith}
-use lib.ListN.{length, length-set}
-use lib.Seq.{sets}
+use lib.ListN.{length-set}
 use Rattle.little.specs.Little.{little}
 use Rattle.little.proofs.Steps.{next}
 use Rattle.little.proofs.lay.Goals as goal

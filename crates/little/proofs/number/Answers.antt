@@ -1,10 +1,8 @@
 -- `little::number` meets its contract: the sum is the number of the bytes passed, the highest first.
-use Prim.Native.Nat.{◌+◌, ◌-◌, ◌^◌, ◌≤◌, ◌<◌, min}
+use Prim.Native.Nat.{◌-◌, ◌≤◌, ◌<◌, min}
 use mathlib.Core.Path.{◌≡◌}
 use native.Mathlib.Nat.{add-zero, sub-zero}
 use native.Mathlib.Omega.{arith}
-use borrow.Author.Rules.{rules}
-use lib.ListN.{take, drop}
 use Rattle.little.specs.Little.{number}
 use Rattle.little.proofs.Steps.{earlier, wider, seven}
 use Rattle.little.proofs.number.Goals as goal

@@ -1,7 +1,6 @@
 -- `little::set` meets its contract: where it stores nothing the place is past the end, and setting there changes nothing.
 use Prim.Native.Nat.{◌+◌}
 use mathlib.Core.Path.{sym}
-use borrow.Author.Rules.{rules}
 use native.Mathlib.Omega.{arith}
 use lib.Seq.{set_out}
 use Rattle.little.proofs.set.Goals as goal

@@ -1,5 +1,4 @@
 -- `little::word64` meets its contract: eight bytes are twice four.
-use borrow.Author.Rules.{rules}
 use native.Mathlib.Omega.{arith}
 use Rattle.little.proofs.Steps.{eight_bytes}
 use Rattle.little.proofs.word64.Goals as goal

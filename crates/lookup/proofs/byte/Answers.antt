@@ -1,6 +1,5 @@
 -- `lookup::byte` meets its contract: the byte stands in the file as far from the record's first as in the record.
 use mathlib.Core.Path.{sym}
-use borrow.Author.Rules.{rules}
 use Rattle.file.proofs.Fields.{byte_of}
 use Rattle.lookup.proofs.byte.Goals as goal
 

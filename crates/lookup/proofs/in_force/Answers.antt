@@ -1,6 +1,5 @@
 -- `lookup::in_force` meets its contract: its two tests are those of `in_force`, and the pass is the rest of it.
 use mathlib.Core.Path.{sym, ap, ◌∙◌}
-use borrow.Author.Rules.{rules}
 use borrow.Author.Tests.{eq-eqb, ne_eqb}
 use Rattle.lookup.specs.declared.InForce.{InForce}
 use Rattle.lookup.specs.Force.{in_force}

@@ -1,5 +1,4 @@
 -- `lookup::is_asked` meets its contract: the tests are those of `asked`, on the fields as they stand in the file.
-use borrow.Author.Rules.{rules}
 use borrow.Author.Tests.{eq-eqb, ne_eqb}
 use Rattle.record.specs.Bytes.{decoded}
 use Rattle.lookup.specs.Force.{asked}

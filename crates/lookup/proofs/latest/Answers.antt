@@ -1,14 +1,12 @@
 -- `lookup::latest` meets its contract: after each record the best is the latest of those passed, and at the end of them all.
-use Prim.Native.Nat.{◌-◌, ◌/◌, ◌≤◌}
+use Prim.Native.Nat.{◌/◌}
 use mathlib.Core.Path.{◌≡◌}
-use mathlib.Core.Logic.{⊎_elim}
-use borrow.Author.Rules.{rules}
 use native.Mathlib.Omega.{arith}
 use lib.ListN.{length}
 use Rattle.record.specs.Bytes.{decoded}
 use Rattle.file.specs.File.{record_in}
 use Rattle.lookup.specs.Force.{asked}
-use Rattle.lookup.proofs.Best.{Best, nothing, passed, lower, higher, some_best, no_best}
+use Rattle.lookup.proofs.Best.{nothing, passed, lower, higher, some_best, no_best}
 use Rattle.lookup.proofs.latest.Goals as goal
 use Rattle.lookup.proofs.latest.Goals.{then-is_asked+then-above-at, then-is_asked+else-above-at, else-is_asked}
 

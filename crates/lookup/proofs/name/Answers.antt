@@ -1,5 +1,4 @@
 -- `lookup::name` meets its contract: the record is the one at the index, and its span is the part handed out.
-use borrow.Author.Rules.{rules}
 use Rattle.lookup.proofs.name.Goals as goal
 
 pub returns-in_default : goal.returns-in_default

@@ -1,6 +1,5 @@
 -- `lookup::owners` meets its contract: its tests are those of `owners`, and what is climbed from the record is the rest of it.
 use mathlib.Core.Path.{ap}
-use borrow.Author.Rules.{rules}
 use borrow.Author.Tests.{eq-eqb, ne_eqb, lt-ltb, le-ltb}
 use native.Mathlib.Nat.{zero-add}
 use native.Mathlib.Omega.{arith}

@@ -1,7 +1,6 @@
 -- `lookup::word` meets its contract: the part handed on is the record's 36 bytes.
 use Prim.Native.Nat.{◌+◌, ◌-◌, ◌*◌}
 use mathlib.Core.Path.{◌≡◌, ap, ◌∙◌}
-use borrow.Author.Rules.{rules}
 use native.Mathlib.Omega.{arith}
 use lib.ListN.{take, drop}
 use Rattle.record.specs.Bytes.{field}

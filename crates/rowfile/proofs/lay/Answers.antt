@@ -1,12 +1,11 @@
 -- `rowfile::lay` meets its contract: what is laid so far, and the rest of the bytes laid on from there, come to the whole.
-use Prim.Native.Nat.{suc, ◌+◌, ◌-◌, ◌≤◌, ◌<◌}
+use Prim.Native.Nat.{suc, ◌+◌, ◌≤◌, ◌<◌}
 use mathlib.Core.Path.{◌≡◌, refl}
-use borrow.Author.Rules.{rules}
 use native.Mathlib.Nat.{add-zero}
 use native.Mathlib.Numerals.{add-one}
 use native.Mathlib.Omega.{arith}
-use lib.ListN.{length, drop, length-set, drop_of_length-le}
-use lib.Seq.{sets, drop-cons}
+use lib.ListN.{length, length-set, drop_of_length-le}
+use lib.Seq.{drop-cons}
 use Rattle.rowfile.proofs.lay.Goals as goal
 
 pub loop-i-init : goal.loop-i-init

@@ -1,10 +1,9 @@
 -- `rowfile::swap` meets its contract: the bytes exchanged so far, and the rest of both rows laid on from there, come to the rows exchanged.
-use Prim.Native.Nat.{ℕ, ◌+◌, ◌-◌, ◌*◌, ◌≤◌, ◌<◌}
-use mathlib.Core.Path.{◌≡◌, refl, sym, ◌∙◌}
+use Prim.Native.Nat.{◌*◌, ◌≤◌}
+use mathlib.Core.Path.{refl, sym, ◌∙◌}
 use native.Mathlib.Nat.{add-zero}
 use native.Mathlib.Omega.{arith}
-use lib.ListN.{length, drop, get_or, length-set, drop_of_length-le}
-use lib.Seq.{sets}
+use lib.ListN.{length, length-set, drop_of_length-le}
 use Rattle.rowfile.specs.Rows.{row_at}
 use Rattle.rowfile.proofs.Swapped.{ends, further_kept, further_rest, first_size, second_size, swapped_sets}
 use Rattle.rowfile.proofs.swap.Goals as goal

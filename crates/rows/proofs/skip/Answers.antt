@@ -1,9 +1,6 @@
 -- `rows::skip` meets its contract: what is left to drop of what is left is what was to be dropped.
-use Prim.Native.Nat.{◌≤◌}
-use mathlib.Core.Path.{◌≡◌, refl, sym, ◌∙◌}
+use mathlib.Core.Path.{refl, sym, ◌∙◌}
 use native.Mathlib.Omega.{arith}
-use lib.ListN.{drop}
-use Rattle.rows.specs.Packed.{items_of}
 use Rattle.rows.proofs.Unpack.{drop_one}
 use Rattle.rows.proofs.skip.Goals as goal
 

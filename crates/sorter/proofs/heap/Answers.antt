@@ -1,7 +1,6 @@
 -- `sorter::heap` meets its contract: from the middle on there are no children, and each entry before it that sinks makes the heap reach one further.
 use native.Mathlib.Omega.{arith}
-use borrow.Author.Rules.{rules}
-use Rattle.sorter.proofs.Rounds.{Heaping, heaping_start, heaping_fit, heaping_next, heaping_end}
+use Rattle.sorter.proofs.Rounds.{heaping_start, heaping_fit, heaping_next, heaping_end}
 use Rattle.sorter.proofs.heap.Goals as goal
 
 pub loop-i-init : goal.loop-i-init

@@ -1,7 +1,6 @@
 -- `sorter::rising_child` meets its contract: each return is a case of the laws about the child that is given way to.
 use mathlib.Core.Path.{refl}
 use native.Mathlib.Omega.{arith}
-use borrow.Author.Rules.{rules}
 use borrow.Author.Tests.{not-true, not-false}
 use Rattle.sorter.proofs.Precedence.{told}
 use Rattle.sorter.proofs.Giving.{gives_none, gives_left, gives_other, gives_further}

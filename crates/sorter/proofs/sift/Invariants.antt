@@ -1,10 +1,6 @@
 -- `sorter::sift` meets its contract: the entry sinks by the laws of Sinking, and the measure is how far it has to go.
 use Prim.Native.Nat.{◌-◌}
-use native.Mathlib.Omega.{arith}
-use borrow.Author.Rules.{rules}
-use Rattle.ordered.proofs.Heap.{child_behind}
-use Rattle.sorter.proofs.Sinking.{Sinks, sinks_start, sinks_fit, sinks_none, sinks_next}
-use Rattle.sorter.proofs.Precedence.{first_read}
+use Rattle.sorter.proofs.Sinking.{Sinks}
 use Rattle.sorter.proofs.sift.Given as goal
 
 abbrev pub invariant-loop-sinking : goal.invariant-loop-sinking

@@ -1,11 +1,7 @@
 -- `vectors::next_of` meets its contract: none of the bytes passed is the one looked for, so the next from here on is the next from the place given.
-use Prim.Native.Nat.{◌+◌, ◌-◌, ◌≤◌}
-use mathlib.Core.Path.{◌≡◌, refl, sym, ◌∙◌}
-use borrow.Author.Rules.{rules}
+use mathlib.Core.Path.{refl, sym, ◌∙◌}
 use borrow.Author.Tests.{not-true, not-false}
 use native.Mathlib.Omega.{arith}
-use lib.ListN.{length, drop}
-use Rattle.vectors.specs.Next.{before}
 use Rattle.vectors.proofs.Laws.{before_other, before_found, before_end}
 use Rattle.vectors.proofs.next_of.Goals as goal
 

@@ -1,5 +1,4 @@
 -- `write` meets its contract: a text that is refused at its beginning, or the answer from its first state on.
-use borrow.Author.Rules.{rules}
 use Rattle.writer.proofs.Answering.{begun_refused}
 use Rattle.writer.proofs.write.Goals as goal
 

@@ -1,5 +1,4 @@
 -- `write_checked` meets its contract: the checker refuses, or what is written are the records that it has accepted.
-use borrow.Author.Rules.{rules}
 use Rattle.writer.proofs.Answering.{refused_first, reads_on, accepted_then}
 use Rattle.writer.proofs.write_checked.Goals as goal
 

@@ -1,7 +1,6 @@
 -- `write_held` meets its contract: the file's records are the reading's, and so is what is written of them.
 use mathlib.Core.Path.{◌∙◌}
 use native.Mathlib.Omega.{arith}
-use borrow.Author.Rules.{rules}
 use Rattle.file.specs.File.{held}
 use Rattle.writer.proofs.Answering.{stands, comes, lines_from, no_room, written_whole}
 use Rattle.writer.proofs.write_held.Goals as goal

@@ -1,7 +1,6 @@
 -- `write_read` meets its contract: what is written are the records that the text reads as.
 use mathlib.Core.Path.{◌∙◌}
 use native.Mathlib.Omega.{arith}
-use borrow.Author.Rules.{rules}
 use Rattle.writer.proofs.Answering.{ready, gives, no_room, written_whole}
 use Rattle.writer.proofs.write_read.Goals as goal
 

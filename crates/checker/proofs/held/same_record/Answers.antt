@@ -1,7 +1,6 @@
 -- `same_record` meets its contract: the parts handed on are the records' 36 bytes.
 use Prim.Native.Nat.{ℕ, ◌+◌, ◌-◌, ◌*◌}
 use mathlib.Core.Path.{◌≡◌, ap, ap₂, ◌∙◌}
-use borrow.Author.Rules.{rules}
 use native.Mathlib.Omega.{arith}
 use lib.ListN.{length, take, drop}
 use Rattle.record.specs.Bytes.{decoded}

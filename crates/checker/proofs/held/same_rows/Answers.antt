@@ -1,5 +1,4 @@
 -- `same_rows` meets its contract: five numbers hold all 36 bytes.
-use borrow.Author.Rules.{rules}
 use native.Mathlib.Omega.{arith}
 use Rattle.checker.proofs.Bytes.{five_same}
 use Rattle.checker.proofs.held.same_rows.Goals as goal

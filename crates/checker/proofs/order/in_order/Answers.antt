@@ -1,5 +1,4 @@
 -- `in_order` meets its contract: the stretch has room for its records.
-use borrow.Author.Rules.{rules}
 use native.Mathlib.Omega.{arith}
 use Rattle.checker.specs.Passing.{stretch, stretch_bytes}
 use Rattle.checker.proofs.Judging.{room36}

@@ -1,7 +1,6 @@
 -- `run_after` meets its contract: a run that agrees goes on where the stretch stands in the file.
 use mathlib.Core.Path.{refl}
 use mathlib.Core.Bool.{false≢true}
-use borrow.Author.Rules.{rules}
 use native.Mathlib.Omega.{arith}
 use Rattle.checker.proofs.order.run_after.Goals as goal
 

@@ -1,12 +1,10 @@
 -- `stretches` meets its contract: each pass gives the next records, and the run says how far the file has them.
-use mathlib.Core.Path.{◌≡◌, refl, ap, ◌∙◌}
-use borrow.Author.Rules.{rules}
+use mathlib.Core.Path.{refl, ap, ◌∙◌}
 use native.Mathlib.Omega.{arith}
 use lib.ListN.{length}
-use Rattle.parser.specs.Code.{rest_of}
 use Rattle.checker.specs.Passing.{stretch}
 use Rattle.checker.proofs.Laying.{laid_length}
-use Rattle.checker.proofs.Following.{So, so_start, so_next, so_last, so_refused, went_on, went_over, went_wrong}
+use Rattle.checker.proofs.Following.{so_start, so_next, so_last, so_refused, went_on, went_over, went_wrong}
 use Rattle.checker.proofs.order.stretches.Goals as goal
 
 pub loop-refusal-init : goal.loop-refusal-init

@@ -1,12 +1,8 @@
 -- `clear` meets its contract: the marks before k are clear.
 use Prim.Native.Nat.{◌-◌, ◌≤◌}
 use mathlib.Core.Path.{◌≡◌}
-use borrow.Author.Rules.{rules}
-use native.Mathlib.Nat.{not-suc-le-zero}
-use native.Mathlib.Omega.{arith}
-use lib.ListN.{length, length-set}
+use lib.ListN.{length}
 use Rattle.checker.specs.Windows.{AllClear}
-use Rattle.checker.proofs.Scanning.{cleared}
 use Rattle.checker.proofs.window.clear.Given as goal
 
 abbrev pub invariant-loop-k : goal.invariant-loop-k

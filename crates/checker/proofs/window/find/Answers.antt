@@ -1,7 +1,6 @@
 -- `find` meets its contract: a record can stand only where its `at` would.
 use mathlib.Core.Path.{sym, ◌∙◌}
 use mathlib.Core.Bool.{true≢false}
-use borrow.Author.Rules.{rules}
 use native.Mathlib.Omega.{arith}
 use Rattle.verdict.proofs.Laws.{same_true, same_equal}
 use Rattle.checker.proofs.Scanning.{nowhere}

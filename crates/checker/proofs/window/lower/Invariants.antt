@@ -1,9 +1,7 @@
 -- `lower` meets its contract: low and high bracket the answer.
 use Prim.Native.Nat.{◌-◌}
-use borrow.Author.Rules.{rules}
-use native.Mathlib.Omega.{arith}
 use Rattle.file.specs.File.{record_in}
-use Rattle.checker.proofs.Scanning.{Bracket, bracket_start, bracket_up, bracket_down}
+use Rattle.checker.proofs.Scanning.{Bracket}
 use Rattle.checker.proofs.window.lower.Given as goal
 
 abbrev pub invariant-loop-low : goal.invariant-loop-low

@@ -1,12 +1,8 @@
 -- `scan` meets its contract: the first i records of the file are scanned.
-use Prim.Native.Nat.{◌-◌, ◌≤◌}
 use mathlib.Core.Path.{◌≡◌}
 use mathlib.Core.Logic.{inl}
-use borrow.Author.Rules.{rules}
 use native.Mathlib.Omega.{arith}
-use lib.ListN.{length, length-set}
-use Rattle.file.specs.File.{record_in}
-use Rattle.checker.specs.Windows.{Scanned}
+use lib.ListN.{length-set}
 use Rattle.checker.proofs.Scanning.{scanned_start, scanned_skip, scanned_mark, scanned_again, outside, between}
 use Rattle.checker.proofs.window.scan.Goals as goal
 

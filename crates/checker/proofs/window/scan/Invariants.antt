@@ -1,13 +1,9 @@
 -- `scan` meets its contract: the first i records of the file are scanned.
 use Prim.Native.Nat.{◌-◌, ◌≤◌}
 use mathlib.Core.Path.{◌≡◌}
-use mathlib.Core.Logic.{inl}
-use borrow.Author.Rules.{rules}
-use native.Mathlib.Omega.{arith}
-use lib.ListN.{length, length-set}
+use lib.ListN.{length}
 use Rattle.file.specs.File.{record_in}
 use Rattle.checker.specs.Windows.{Scanned}
-use Rattle.checker.proofs.Scanning.{scanned_start, scanned_skip, scanned_mark, scanned_again, outside, between}
 use Rattle.checker.proofs.window.scan.Given as goal
 
 abbrev pub invariant-loop-i : goal.invariant-loop-i

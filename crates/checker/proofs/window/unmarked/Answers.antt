@@ -1,10 +1,7 @@
 -- `unmarked` meets its contract: no mark before k is clear.
-use Prim.Native.Nat.{ℕ, ◌-◌, ◌≤◌, ◌<◌}
-use mathlib.Core.Path.{◌≡◌}
 use borrow.Author.Rules.{rules}
 use borrow.Author.Count.{below_more}
 use native.Mathlib.Omega.{arith}
-use lib.ListN.{get_or}
 use Rattle.checker.proofs.window.unmarked.Goals as goal
 
 pub returns-then-marks-k-eq0 : goal.returns-then-marks-k-eq0

@@ -1,9 +1,6 @@
 -- `unmarked` meets its contract: no mark before k is clear.
 use Prim.Native.Nat.{ℕ, ◌-◌, ◌≤◌, ◌<◌}
 use mathlib.Core.Path.{◌≡◌}
-use borrow.Author.Rules.{rules}
-use borrow.Author.Count.{below_more}
-use native.Mathlib.Omega.{arith}
 use lib.ListN.{get_or}
 use Rattle.checker.proofs.window.unmarked.Given as goal
 

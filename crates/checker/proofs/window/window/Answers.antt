@@ -1,5 +1,4 @@
 -- `window` meets its contract: the scan starts with clear marks, and the first that stays clear is counted.
-use borrow.Author.Rules.{rules}
 use native.Mathlib.Omega.{arith}
 use Rattle.checker.proofs.Scanning.{windowed}
 use Rattle.checker.proofs.window.window.Goals as goal

@@ -1,5 +1,4 @@
 -- `by_windows` meets its contract: the window and its marks have room.
-use borrow.Author.Rules.{rules}
 use Prim.Native.Nat.{ℕ}
 use mathlib.Core.Path.{refl, sym}
 use lib.ListN.{length-replicate}

@@ -1,6 +1,5 @@
 -- `seen_after` meets its contract: what the window shows is added to what was seen.
 use mathlib.Core.Path.{refl}
-use borrow.Author.Rules.{rules}
 use native.Mathlib.Omega.{arith}
 use Rattle.checker.proofs.Covering.{told_short, told_full, told_kept, covered_next, short_of}
 use Rattle.checker.proofs.windows.seen_after.Goals as goal

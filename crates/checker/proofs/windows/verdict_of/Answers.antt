@@ -1,6 +1,5 @@
 -- `verdict_of` meets its contract: every record of the file has its `at` below the windows' end.
 use mathlib.Core.Path.{sym, ◌∙◌}
-use borrow.Author.Rules.{rules}
 use borrow.Author.Tests.{not-true, not-false}
 use native.Mathlib.Omega.{arith}
 use Rattle.checker.proofs.Covering.{is_wrong, is_lacking, is_done}

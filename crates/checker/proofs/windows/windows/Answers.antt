@@ -1,13 +1,11 @@
 -- `windows` meets its contract: each pass fills a window with the next records, and what is seen then covers them too.
-use mathlib.Core.Path.{◌≡◌, refl, ap, ◌∙◌}
-use borrow.Author.Rules.{rules}
+use mathlib.Core.Path.{refl, ap, ◌∙◌}
 use native.Mathlib.Omega.{arith}
 use lib.ListN.{length}
-use Rattle.parser.specs.Code.{rest_of}
 use Rattle.checker.specs.Passing.{width}
 use Rattle.checker.proofs.Following.{went_on, went_over, went_wrong}
 use Rattle.checker.proofs.Laying.{laid_length}
-use Rattle.checker.proofs.Windowing.{Under, under_start, on_sorted, on_inside, on_under, over_sorted, over_inside, over_verdict, never_refused}
+use Rattle.checker.proofs.Windowing.{under_start, on_sorted, on_inside, on_under, over_sorted, over_inside, over_verdict, never_refused}
 use Rattle.checker.proofs.windows.windows.Goals as goal
 
 pub loop-refusal-init : goal.loop-refusal-init

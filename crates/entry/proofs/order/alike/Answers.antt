@@ -1,6 +1,5 @@
 -- `entry::order::alike` meets its contract: names of one length are the same bytes if they go together to their end.
 use mathlib.Core.Path.{sym}
-use borrow.Author.Rules.{rules}
 use native.Mathlib.Omega.{arith}
 use Rattle.entry.proofs.Common.{alike_length, alike_common}
 use Rattle.entry.proofs.order.alike.Goals as goal

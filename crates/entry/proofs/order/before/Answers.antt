@@ -1,7 +1,6 @@
 -- `entry::order::before` meets its contract: owners that differ decide, and otherwise the names and then the `at`.
 use mathlib.Core.Path.{◌≡◌, sym}
 use mathlib.Core.Bool.{or-false}
-use borrow.Author.Rules.{rules}
 use borrow.Author.Tests.{ne_eqb, eq-eqb, le-ltb}
 use native.Mathlib.Omega.{arith}
 use Rattle.entry.specs.Order.{before}

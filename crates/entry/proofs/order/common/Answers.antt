@@ -1,10 +1,6 @@
 -- `entry::order::common` meets its contract: the names go together as far as the loop came.
-use Prim.Native.Nat.{ℕ, ◌-◌, ◌≤◌, ◌<◌}
-use mathlib.Core.Path.{◌≡◌}
 use borrow.Author.Count.{below_none, below_more}
-use borrow.Author.Rules.{rules}
 use native.Mathlib.Omega.{arith}
-use lib.ListN.{length, get_or}
 use Rattle.entry.proofs.Common.{meets}
 use Rattle.entry.proofs.order.common.Goals as goal
 

@@ -1,11 +1,7 @@
 -- `entry::order::common` meets its contract: the names go together as far as the loop came.
 use Prim.Native.Nat.{ℕ, ◌-◌, ◌≤◌, ◌<◌}
 use mathlib.Core.Path.{◌≡◌}
-use borrow.Author.Count.{below_none, below_more}
-use borrow.Author.Rules.{rules}
-use native.Mathlib.Omega.{arith}
 use lib.ListN.{length, get_or}
-use Rattle.entry.proofs.Common.{meets}
 use Rattle.entry.proofs.order.common.Given as goal
 
 abbrev pub invariant-loop-i : goal.invariant-loop-i

@@ -1,8 +1,7 @@
 -- `entry::order::named_before` meets its contract: the bytes where the names part decide, then which name ends there, then the `at`.
-use Prim.Native.Nat.{◌≤◌, ◌<◌}
+use Prim.Native.Nat.{◌<◌}
 use mathlib.Core.Path.{◌≡◌, sym}
 use mathlib.Core.Bool.{or-false}
-use borrow.Author.Rules.{rules}
 use native.Mathlib.Omega.{arith}
 use lib.ListN.{length}
 use Rattle.entry.specs.Common.{common}

@@ -1,5 +1,4 @@
 -- `entry::order::precedes` meets its contract: the second entry's name is that part of the text.
-use borrow.Author.Rules.{rules}
 use Rattle.entry.proofs.order.precedes.Goals as goal
 
 pub returns : goal.returns

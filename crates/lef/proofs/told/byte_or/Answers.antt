@@ -1,5 +1,4 @@
 -- `byte_or` meets its contract: its test is that of the clause.
-use borrow.Author.Rules.{rules}
 use borrow.Author.Tests.{le-leb, lt-leb}
 use Rattle.lef.proofs.told.byte_or.Goals as goal
 

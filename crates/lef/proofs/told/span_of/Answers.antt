@@ -1,5 +1,4 @@
 -- `span_of` meets its contract: the record is the one at the index, and its span is cut at the text's length.
-use borrow.Author.Rules.{rules}
 use Rattle.lef.proofs.told.span_of.Goals as goal
 
 pub returns-in_default : goal.returns-in_default

@@ -1,6 +1,5 @@
 -- `eight::before` meets its contract: 64 bits have at most 64 zeros.
 use native.Mathlib.Omega.{arith}
-use borrow.Author.Rules.{rules}
 use lib.Count.{trailing_le}
 use Rattle.lexer.proofs.eight.before.Goals as goal
 

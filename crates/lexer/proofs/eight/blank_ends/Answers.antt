@@ -1,6 +1,5 @@
 -- `eight::blank_ends` meets its contract: its rule holds of each of the 256 bytes, and so of eight of them.
 use mathlib.Core.Path.{refl, ◌∙◌}
-use borrow.Author.Rules.{rules}
 use Rattle.lexer.specs.Eight.{is_blank}
 use Rattle.lexer.specs.Eight.{mark, other}
 use Rattle.lexer.proofs.EightBits.{equal}

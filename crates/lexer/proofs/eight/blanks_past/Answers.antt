@@ -1,10 +1,8 @@
 -- `eight::blanks_past` meets its contract: at each turn the run from the present place ends where the run from the place given does.
-use Prim.Native.Nat.{◌+◌, ◌-◌, ◌≤◌}
-use mathlib.Core.Path.{◌≡◌, ap, ◌∙◌}
-use borrow.Author.Rules.{rules}
+use Prim.Native.Nat.{◌+◌}
+use mathlib.Core.Path.{ap, ◌∙◌}
 use native.Mathlib.Omega.{arith}
 use lib.Count.{trailing_le}
-use lib.ListN.{length}
 use Rattle.lexer.specs.Eight.{is_blank}
 use Rattle.lexer.specs.Run.{past}
 use Rattle.lexer.proofs.Runs.{through}

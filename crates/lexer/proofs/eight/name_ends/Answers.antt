@@ -1,7 +1,6 @@
 -- `eight::name_ends` meets its contract: its rule holds of each of the 256 bytes, and so of eight of them.
 use mathlib.Core.Path.{refl, sym, ap₂, ◌∙◌}
 use native.Mathlib.Omega.{arith}
-use borrow.Author.Rules.{rules}
 use lib.Bits.{bit_xor}
 use Rattle.lexer.specs.Bytes.{in_name}
 use Rattle.lexer.specs.Eight.{mark, other}

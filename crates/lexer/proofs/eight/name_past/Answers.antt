@@ -1,12 +1,9 @@
 -- `eight::name_past` meets its contract: at each turn the run from the present place ends where the run from the place given does.
-use Prim.Native.Nat.{◌+◌, ◌-◌, ◌≤◌}
-use mathlib.Core.Path.{◌≡◌, ap, ◌∙◌}
-use borrow.Author.Rules.{rules}
+use Prim.Native.Nat.{◌+◌}
+use mathlib.Core.Path.{ap, ◌∙◌}
 use native.Mathlib.Omega.{arith}
 use lib.Count.{trailing_le}
-use lib.ListN.{length}
 use Rattle.lexer.specs.Bytes.{in_name}
-use Rattle.lexer.specs.Run.{past}
 use Rattle.lexer.proofs.EightRuns.{here, beyond}
 use Rattle.lexer.proofs.eight.name_past.Goals as goal
 

@@ -1,7 +1,6 @@
 -- `eight::near_blanks` meets its contract: the blanks end at the first mark on the eight bytes, and where there is none the place stays.
 use Prim.Native.Nat.{◌+◌}
 use mathlib.Core.Path.{ap, ◌∙◌}
-use borrow.Author.Rules.{rules}
 use native.Mathlib.Omega.{arith}
 use lib.Count.{trailing_le}
 use Rattle.lexer.specs.Eight.{is_blank}

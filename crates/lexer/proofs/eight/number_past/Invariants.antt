@@ -1,13 +1,9 @@
 -- `eight::number_past` meets its contract: at each turn the run from the present place ends where the run from the place given does.
-use Prim.Native.Nat.{◌+◌, ◌-◌, ◌≤◌}
-use mathlib.Core.Path.{◌≡◌, ap, ◌∙◌}
-use borrow.Author.Rules.{rules}
-use native.Mathlib.Omega.{arith}
-use lib.Count.{trailing_le}
+use Prim.Native.Nat.{◌-◌, ◌≤◌}
+use mathlib.Core.Path.{◌≡◌}
 use lib.ListN.{length}
 use Rattle.lexer.specs.Bytes.{in_number}
 use Rattle.lexer.specs.Run.{past}
-use Rattle.lexer.proofs.EightRuns.{here, beyond}
 use Rattle.lexer.proofs.eight.number_past.Given as goal
 
 abbrev pub invariant-loop-i : goal.invariant-loop-i

@@ -1,11 +1,7 @@
 -- `scan::all_ascii` meets its contract: while every byte so far is ASCII, the run from the present place ends where the run from the start does.
-use Prim.Native.Nat.{◌≤◌, ◌-◌}
 use mathlib.Core.Path.{◌≡◌, ◌∙◌}
-use mathlib.Core.Bool.{true}
-use borrow.Author.Rules.{rules}
 use native.Mathlib.Omega.{arith}
 use Rattle.lexer.specs.Bytes.{is_ascii}
-use Rattle.lexer.specs.Run.{past}
 use Rattle.lexer.proofs.Runs.{on, both}
 use Rattle.lexer.proofs.scan.all_ascii.Goals as goal
 

@@ -1,7 +1,6 @@
 -- `scan::class_of` meets its contract: at each return the tests that led there say which case of `class_of` holds.
 use mathlib.Core.Path.{◌≡◌, sym, ◌∙◌}
 use mathlib.Core.Bool.{false}
-use borrow.Author.Rules.{rules}
 use borrow.Author.Tests.{ne_eqb}
 use Rattle.lexer.specs.declared.scan.Class.TheVariants.{Other}
 use Rattle.lexer.specs.Bytes.{is_letter, is_digit, class_of}

@@ -1,5 +1,4 @@
 -- `scan::goes_on` meets its contract: in each arm the run is the arm's.
-use borrow.Author.Rules.{rules}
 use Rattle.lexer.proofs.scan.goes_on.Goals as goal
 
 pub returns-in-Name : goal.returns-in-Name

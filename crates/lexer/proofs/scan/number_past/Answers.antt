@@ -1,10 +1,9 @@
 -- `scan::number_past` meets its contract: at each turn the run from the present place ends where the run from the place given does,
 -- since digits and a point are bytes of a number. What is left of the text grows less.
-use Prim.Native.Nat.{ℕ, ◌-◌, ◌<◌}
+use Prim.Native.Nat.{ℕ, ◌<◌}
 use mathlib.Core.Path.{◌≡◌, ◌∙◌}
 use mathlib.Core.Bool.{false}
 use mathlib.Core.List.{List}
-use borrow.Author.Rules.{rules}
 use borrow.Author.Tests.{ne_eqb}
 use native.Mathlib.Omega.{arith}
 use lib.ListN.{length, get_or}

@@ -1,8 +1,6 @@
 -- `scan::past_blocks` meets its contract: at each turn the run from the present place ends where the run from 0 does.
 use Prim.Native.Nat.{◌≤◌, ◌-◌}
-use mathlib.Core.Path.{◌≡◌, ◌∙◌}
-use borrow.Author.Rules.{rules}
-use native.Mathlib.Omega.{arith}
+use mathlib.Core.Path.{◌≡◌}
 use lib.ListN.{length}
 use Rattle.lexer.specs.Bytes.{is_ascii}
 use Rattle.lexer.specs.Run.{past}

@@ -1,11 +1,6 @@
 -- `scan::run_past` meets its contract: at each turn the run from the present place ends where the run from the place given does.
-use Prim.Native.Nat.{◌-◌}
-use mathlib.Core.Path.{◌≡◌, ◌∙◌}
-use borrow.Author.Rules.{rules}
+use mathlib.Core.Path.{◌∙◌}
 use native.Mathlib.Omega.{arith}
-use lib.ListN.{length}
-use Rattle.lexer.specs.Bytes.{goes_on}
-use Rattle.lexer.specs.Run.{past}
 use Rattle.lexer.proofs.Runs.{on, off, out}
 use Rattle.lexer.proofs.scan.run_past.Goals as goal
 

@@ -1,12 +1,9 @@
 -- `scan::run_past` meets its contract: at each turn the run from the present place ends where the run from the place given does.
 use Prim.Native.Nat.{◌-◌}
-use mathlib.Core.Path.{◌≡◌, ◌∙◌}
-use borrow.Author.Rules.{rules}
-use native.Mathlib.Omega.{arith}
+use mathlib.Core.Path.{◌≡◌}
 use lib.ListN.{length}
 use Rattle.lexer.specs.Bytes.{goes_on}
 use Rattle.lexer.specs.Run.{past}
-use Rattle.lexer.proofs.Runs.{on, off, out}
 use Rattle.lexer.proofs.scan.run_past.Given as goal
 
 abbrev pub invariant-loop-i : goal.invariant-loop-i

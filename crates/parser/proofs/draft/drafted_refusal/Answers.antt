@@ -1,5 +1,4 @@
 -- `parser::draft::drafted_refusal` meets its contract: each arm is a case of `why_drafted`.
-use borrow.Author.Rules.{rules}
 use Rattle.parser.proofs.draft.drafted_refusal.Goals as goal
 
 pub complain-requires : goal.complain-requires

@@ -1,7 +1,6 @@
 -- `parser::draft::to_string` meets its contract: the token has two bytes more than the name, which starts one byte after it.
 use Prim.Native.Nat.{◌+◌, ◌-◌}
 use native.Mathlib.Omega.{arith}
-use borrow.Author.Rules.{rules}
 use borrow.Author.Tests.{eq-eqb, ne_eqb}
 use Rattle.grammar.specs.Engine.{item}
 use Rattle.parser.proofs.Ahead.{span_within, inside_at}

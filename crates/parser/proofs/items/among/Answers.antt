@@ -1,5 +1,4 @@
 -- `parser::items::among` meets its contract: the item's byte says which list.
-use borrow.Author.Rules.{rules}
 use borrow.Author.Tests.{eq-eqb, ne_eqb}
 use Rattle.rows.proofs.Ranges.{at_among}
 use Rattle.parser.proofs.items.among.Goals as goal

@@ -1,6 +1,5 @@
 -- `parser::items::asked` meets its contract: the items by the ranges of their bytes.
 use Prim.Native.Nat.{◌-◌}
-use borrow.Author.Rules.{rules}
 use Rattle.rows.specs.Packed.{key_at}
 use Rattle.rows.proofs.Ranges.{at_key}
 use Rattle.parser.proofs.items.asked.Goals as goal

@@ -1,15 +1,9 @@
 -- `parser::items::items` meets its contract: what is left of the number is what is left of the items, and they go on as they would have
 -- from the empty draft.
-use Prim.Native.Nat.{ℕ, ◌%◌, ◌≤◌}
-use mathlib.Core.Path.{◌≡◌, ◌∙◌}
+use Prim.Native.Nat.{◌%◌}
+use mathlib.Core.Path.{◌∙◌}
 use native.Mathlib.Omega.{arith}
-use borrow.Author.Rules.{rules}
-use Rattle.grammar.specs.Engine.{Draft, items}
-use Rattle.rows.specs.Packed.{items_of}
 use Rattle.rows.proofs.Ranges.{looked_at, taken_at}
-use Rattle.parser.specs.Code.{ahead_of}
-use Rattle.parser.specs.Kept.{frame_of}
-use Rattle.parser.specs.Drafts.{draft_of, shown, emptied}
 use Rattle.parser.proofs.Alike.{from_empty}
 use Rattle.parser.proofs.Taking.{took_so, takes_at}
 use Rattle.parser.proofs.Turning.{stop, go, untaken, onward, end}
@@ -32,8 +26,7 @@ loop-s-smaller-then-it c =
     omega arith
 
 pub loop-s-preserved-then-it : goal.loop-s-preserved-then-it
-loop-s-preserved-then-it c =
-    (
+loop-s-preserved-then-it c = (
   omega arith,
   λ b k.
       let a = c in
@@ -70,8 +63,7 @@ loop-s-smaller c =
     omega arith
 
 pub loop-s-preserved : goal.loop-s-preserved
-loop-s-preserved c =
-    (
+loop-s-preserved c = (
   omega arith,
   λ b k.
       let j = c in

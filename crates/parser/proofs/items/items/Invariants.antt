@@ -1,18 +1,12 @@
 -- `parser::items::items` meets its contract: what is left of the number is what is left of the items, and they go on as they would have
 -- from the empty draft.
-use Prim.Native.Nat.{ℕ, ◌%◌, ◌≤◌}
-use mathlib.Core.Path.{◌≡◌, ◌∙◌}
-use native.Mathlib.Omega.{arith}
-use borrow.Author.Rules.{rules}
+use Prim.Native.Nat.{ℕ, ◌≤◌}
+use mathlib.Core.Path.{◌≡◌}
 use Rattle.grammar.specs.Engine.{Draft, items}
 use Rattle.rows.specs.Packed.{items_of}
-use Rattle.rows.proofs.Ranges.{looked_at, taken_at}
 use Rattle.parser.specs.Code.{ahead_of}
 use Rattle.parser.specs.Kept.{frame_of}
 use Rattle.parser.specs.Drafts.{draft_of, shown, emptied}
-use Rattle.parser.proofs.Alike.{from_empty}
-use Rattle.parser.proofs.Taking.{took_so, takes_at}
-use Rattle.parser.proofs.Turning.{stop, go, untaken, onward, end}
 use Rattle.parser.proofs.items.items.Given as goal
 
 abbrev pub invariant-loop-s : goal.invariant-loop-s

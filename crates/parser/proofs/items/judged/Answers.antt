@@ -1,10 +1,8 @@
 -- `parser::items::judged` meets its contract: an arm for each item.
 use mathlib.Core.Path.{◌≡◌, refl}
-use mathlib.Core.Logic.{⊎_elim}
 use mathlib.Core.List.{[], ◌∷◌}
 use native.Mathlib.Omega.{arith}
 use native.Mathlib.Decide.{dec_lt}
-use borrow.Author.Rules.{rules}
 use Rattle.word.proofs.Steps.{apart}
 use Rattle.rows.specs.Packed.{item_at}
 use Rattle.rows.proofs.Ranges.{at_semi, low_at}

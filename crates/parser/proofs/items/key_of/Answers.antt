@@ -1,6 +1,5 @@
 -- `parser::items::key_of` meets its contract: the key words have the numbers from 1 on, and past them there is none.
 use native.Mathlib.Omega.{arith}
-use borrow.Author.Rules.{rules}
 use Rattle.rows.proofs.Ranges.{key_number, past_number}
 use Rattle.parser.proofs.items.key_of.Goals as goal
 

@@ -2,7 +2,6 @@
 use Prim.Native.Nat.{◌-◌, ◌%◌}
 use mathlib.Core.Path.{◌≡◌}
 use native.Mathlib.Omega.{arith}
-use borrow.Author.Rules.{rules}
 use Rattle.grammar.specs.Engine.{item}
 use Rattle.rows.proofs.Unpack.{no_kinds}
 use Rattle.rows.proofs.Ranges.{at_no_name, at_second, at_code, at_more, at_whole}

@@ -1,5 +1,4 @@
 -- `parser::items::spelt` meets its contract: two bytes ask for a word, the others for a string.
-use borrow.Author.Rules.{rules}
 use Rattle.rows.proofs.Ranges.{at_word_microns, at_word_units, at_string}
 use Rattle.parser.proofs.Listed.{units_word, microns_word}
 use Rattle.parser.proofs.items.spelt.Goals as goal

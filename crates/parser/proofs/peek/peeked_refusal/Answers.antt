@@ -1,5 +1,4 @@
 -- `parser::peek::peeked_refusal` meets its contract: each arm is a case of `why_peeked`.
-use borrow.Author.Rules.{rules}
 use Rattle.parser.proofs.peek.peeked_refusal.Goals as goal
 
 pub complain-requires : goal.complain-requires

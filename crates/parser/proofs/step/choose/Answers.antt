@@ -1,5 +1,5 @@
 -- `parser::step::choose` meets its contract: each form of a block has its function.
-use mathlib.Core.Path.{◌≡◌, sym, ◌∙◌}
+use mathlib.Core.Path.{sym, ◌∙◌}
 use mathlib.Core.List.{[], ◌∷◌}
 use Rattle.word.proofs.Steps.{apart}
 use Rattle.parser.proofs.step.choose.Goals as goal

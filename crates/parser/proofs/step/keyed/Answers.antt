@@ -18,8 +18,11 @@ peeked_refusal-requires c =
 
 pub returns-in_default : goal.returns-in_default
 returns-in_default c =
-    let g = c.args in record { of = (λ z. rw (c.peeked_refusal.ensures, c.in_default.is)
-          (unseen g.lent.now.now g.version g.f g.held _ c.peek_key-p.ensures z _ c.in_default.is)); low = tt }
+    let g = c.args in record {
+      of = (λ z. rw (c.peeked_refusal.ensures, c.in_default.is)
+          (unseen g.lent.now.now g.version g.f g.held _ c.peek_key-p.ensures z _ c.in_default.is));
+      low = tt;
+    }
 
 pub row_of-row-requires : goal.row_of-row-requires
 row_of-row-requires c =
@@ -48,14 +51,20 @@ returns-in_default-a c =
     let t = c in
     let d = t in
     let p = d in
-    let g = p.args in record { of = (λ z. rw (c.taken_refusal.ensures, c.in_default-a.is)
+    let g = p.args in record {
+      of = (λ z. rw (c.taken_refusal.ensures, c.in_default-a.is)
           (does_refuse g.lent.now.now g.version g.f g.held _ _ _ (λ f a taken p. refl) (below t.if-row-gt-CLOSE.false) _ t.next_token-a.ensures t.if-row-gt-CLOSE.false _ c.in_default-a.is
-          ∙ seen g.lent.now.now g.version g.f g.held _ p.peek_key-p.ensures z _ p.in-Is.is _ d.row_of-row.ensures)); low = tt }
+          ∙ seen g.lent.now.now g.version g.f g.held _ p.peek_key-p.ensures z _ p.in-Is.is _ d.row_of-row.ensures));
+      low = tt;
+    }
 
 pub returns : goal.returns
 returns c =
     let t = c in
     let d = t in
     let p = d in
-    let g = p.args in record { of = (λ z. does_run g.lent.now.now g.version g.f g.held _ _ _ (λ f a taken p. refl) (below t.if-row-gt-CLOSE.false) _ t.next_token-a.ensures t.if-row-gt-CLOSE.false _ c.in-Next.is
-          ∙ seen g.lent.now.now g.version g.f g.held _ p.peek_key-p.ensures z _ p.in-Is.is _ d.row_of-row.ensures); low = t.if-row-gt-CLOSE.false }
+    let g = p.args in record {
+      of = (λ z. does_run g.lent.now.now g.version g.f g.held _ _ _ (λ f a taken p. refl) (below t.if-row-gt-CLOSE.false) _ t.next_token-a.ensures t.if-row-gt-CLOSE.false _ c.in-Next.is
+          ∙ seen g.lent.now.now g.version g.f g.held _ p.peek_key-p.ensures z _ p.in-Is.is _ d.row_of-row.ensures);
+      low = t.if-row-gt-CLOSE.false;
+    }

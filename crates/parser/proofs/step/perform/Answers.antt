@@ -28,8 +28,11 @@ pub returns-in_default : goal.returns-in_default
 returns-in_default c =
     let t = c in
     let d = t in
-    let g = d.args in record { of = (λ f. rw (c.taken_refusal.ensures, c.in_default.is)
-          (does_refuse g.lent.now.now g.version f g.held _ _ _ d.settled-row.ensures.same d.settled-row.ensures.plain _ t.next_token-a.ensures t.if-act-gt-CLOSE.false _ c.in_default.is)); low = tt }
+    let g = d.args in record {
+      of = (λ f. rw (c.taken_refusal.ensures, c.in_default.is)
+          (does_refuse g.lent.now.now g.version f g.held _ _ _ d.settled-row.ensures.same d.settled-row.ensures.plain _ t.next_token-a.ensures t.if-act-gt-CLOSE.false _ c.in_default.is));
+      low = tt;
+    }
 
 pub returns : goal.returns
 returns c =

@@ -41,8 +41,11 @@ pub returns-in_default : goal.returns-in_default
 returns-in_default c =
     let t = c in
     let e = t.form_of-form.ensures in
-    let g = t.args in record { of = (λ x y z. rw (c.taken_refusal.ensures, c.in_default.is)
-          (end_refused g.lent.now.now g.version g.f g.held x y z (rw (← e) (is_over (eqb t.form_of-form.result 2) (eqb g.held.kind 3) t.if-form-kind.false)) _ t.next_token-a.ensures _ c.in_default.is)); low = tt }
+    let g = t.args in record {
+      of = (λ x y z. rw (c.taken_refusal.ensures, c.in_default.is)
+          (end_refused g.lent.now.now g.version g.f g.held x y z (rw (← e) (is_over (eqb t.form_of-form.result 2) (eqb g.held.kind 3) t.if-form-kind.false)) _ t.next_token-a.ensures _ c.in_default.is));
+      low = tt;
+    }
 
 pub after_options-requires : goal.after_options-requires
 after_options-requires c =

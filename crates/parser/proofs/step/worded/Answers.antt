@@ -16,8 +16,11 @@ taken_refusal-requires c =
 pub returns-in_default : goal.returns-in_default
 returns-in_default c =
     let n = c in
-    let g = n.args in record { of = rw (c.taken_refusal.ensures, c.in_default.is)
-          (no_word g.lent.now.now g.version g.f g.held _ n.next_token-t.ensures _ c.in_default.is); low = tt }
+    let g = n.args in record {
+      of = rw (c.taken_refusal.ensures, c.in_default.is)
+          (no_word g.lent.now.now g.version g.f g.held _ n.next_token-t.ensures _ c.in_default.is);
+      low = tt;
+    }
 
 pub get_name-a-requires : goal.get_name-a-requires
 get_name-a-requires c =
@@ -33,8 +36,11 @@ returns-in_default-a c =
     let t = o in
     let n = t in
     let g = n.args in
-    let took = took_so g.lent.now.now g.held (ahead_of g.lent.now.now g.held) _ n.next_token-t.ensures _ t.in-Next.is in record { of = rw (c.taken_refusal-in_default-a.ensures, c.in_default-a.is)
-          (untaken g.lent.now.now g.version g.f g.held _ (o.get_name-a.ensures _ _ took) _ c.in_default-a.is); low = tt }
+    let took = took_so g.lent.now.now g.held (ahead_of g.lent.now.now g.held) _ n.next_token-t.ensures _ t.in-Next.is in record {
+      of = rw (c.taken_refusal-in_default-a.ensures, c.in_default-a.is)
+          (untaken g.lent.now.now g.version g.f g.held _ (o.get_name-a.ensures _ _ took) _ c.in_default-a.is);
+      low = tt;
+    }
 
 pub word_in-requires : goal.word_in-requires
 word_in-requires c =
@@ -59,8 +65,11 @@ returns-then-act-gt-CLOSE c =
     let t = a in
     let n = t in
     let g = n.args in
-    let took = took_so g.lent.now.now g.held (ahead_of g.lent.now.now g.held) _ n.next_token-t.ensures _ t.in-Next.is in record { of = c.stopped.ensures.of g.lent.now.now g.f g.held
-          ∙ taken_stopped g.lent.now.now g.version g.f g.held _ (a.get_name-a.ensures _ _ took) _ a.in-Next-a.is _ d.word_in.ensures _ _ _ d.row_of.ensures d.settled-row.ensures.same d.settled-row.ensures.plain c.if-act-gt-CLOSE.true; low = c.stopped.ensures.low }
+    let took = took_so g.lent.now.now g.held (ahead_of g.lent.now.now g.held) _ n.next_token-t.ensures _ t.in-Next.is in record {
+      of = c.stopped.ensures.of g.lent.now.now g.f g.held
+          ∙ taken_stopped g.lent.now.now g.version g.f g.held _ (a.get_name-a.ensures _ _ took) _ a.in-Next-a.is _ d.word_in.ensures _ _ _ d.row_of.ensures d.settled-row.ensures.same d.settled-row.ensures.plain c.if-act-gt-CLOSE.true;
+      low = c.stopped.ensures.low;
+    }
 
 pub returns : goal.returns
 returns c =

@@ -1,6 +1,5 @@
 -- `parser::take::next_near` meets its contract: the end is not taken, and after any other token the lexer's answer is held.
 use mathlib.Core.Path.{sym}
-use borrow.Author.Rules.{rules}
 use Rattle.parser.proofs.Ahead.{at_end, taken}
 use Rattle.parser.proofs.take.next_near.Goals as goal
 

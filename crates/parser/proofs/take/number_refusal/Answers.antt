@@ -1,5 +1,4 @@
 -- `parser::take::number_refusal` meets its contract: each arm is a case of `why_number`.
-use borrow.Author.Rules.{rules}
 use Rattle.parser.proofs.take.number_refusal.Goals as goal
 
 pub complain-requires : goal.complain-requires

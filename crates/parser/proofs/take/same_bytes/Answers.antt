@@ -1,8 +1,8 @@
 -- `parser::take::same_bytes` meets its contract: as many bytes as were passed agree, so the rest decides.
-use Prim.Native.Nat.{◌-◌, ◌≤◌}
-use mathlib.Core.Path.{◌≡◌, refl, sym, ◌∙◌}
+use Prim.Native.Nat.{◌≤◌}
+use mathlib.Core.Path.{refl, sym, ◌∙◌}
 use native.Mathlib.Omega.{arith}
-use lib.ListN.{length, drop, drop_of_length-le}
+use lib.ListN.{length, drop_of_length-le}
 use Rattle.word.specs.Words.{same}
 use Rattle.word.proofs.Words.{other_length, agree, differ}
 use Rattle.parser.proofs.take.same_bytes.Goals as goal

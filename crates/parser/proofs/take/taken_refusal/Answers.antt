@@ -1,5 +1,4 @@
 -- `parser::take::taken_refusal` meets its contract: each arm is a case of `why_taken`.
-use borrow.Author.Rules.{rules}
 use Rattle.parser.proofs.take.taken_refusal.Goals as goal
 
 pub complain-requires : goal.complain-requires

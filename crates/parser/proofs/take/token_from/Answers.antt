@@ -1,5 +1,4 @@
 -- `parser::take::token_from` meets its contract: in each arm the lexer's answer is the arm's.
-use borrow.Author.Rules.{rules}
 use Rattle.parser.proofs.take.token_from.Goals as goal
 
 pub lex_in-requires : goal.lex_in-requires

@@ -1,5 +1,4 @@
 -- `parser::take::txt` meets its contract: within the text it is the part, and what reaches outside is cut there.
-use borrow.Author.Rules.{rules}
 use Rattle.parser.proofs.Ahead.{outside, cut, turned}
 use Rattle.parser.proofs.take.txt.Goals as goal
 

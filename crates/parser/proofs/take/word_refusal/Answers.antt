@@ -1,5 +1,4 @@
 -- `parser::take::word_refusal` meets its contract: each arm is a case of `why_word`.
-use borrow.Author.Rules.{rules}
 use Rattle.parser.proofs.take.word_refusal.Goals as goal
 
 pub complain-requires : goal.complain-requires

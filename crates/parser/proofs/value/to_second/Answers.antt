@@ -2,7 +2,6 @@
 use Prim.Native.Nat.{◌%◌}
 use mathlib.Core.Path.{◌≡◌}
 use native.Mathlib.Omega.{arith}
-use borrow.Author.Rules.{rules}
 use Rattle.grammar.specs.Engine.{item}
 use Rattle.parser.proofs.value.to_second.Goals as goal
 

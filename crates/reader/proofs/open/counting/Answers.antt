@@ -1,5 +1,4 @@
 -- `reader::open::counting` meets its contract: the kind is taken from those that the block lacks, and from none it takes none.
-use borrow.Author.Rules.{rules}
 use Rattle.reader.proofs.Lacking.{by_none}
 use Rattle.reader.proofs.open.counting.Goals as goal
 

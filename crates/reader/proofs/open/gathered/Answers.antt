@@ -1,5 +1,4 @@
 -- `reader::open::gathered` meets its contract: each block is read at its depth.
-use borrow.Author.Rules.{rules}
 use Rattle.reader.proofs.open.gathered.Goals as goal
 
 pub returns : goal.returns

@@ -1,6 +1,5 @@
 -- `reader::open::left` meets its contract: the last of those around is the innermost then.
 use mathlib.Core.Path.{ap}
-use borrow.Author.Rules.{rules}
 use Rattle.grammar.specs.Turns as T
 use Rattle.reader.proofs.Stack.{outermost_off}
 use Rattle.reader.proofs.open.left.Goals as goal

@@ -1,7 +1,6 @@
 -- `reader::open::push` meets its contract: five stores.
 use mathlib.Core.Path.{◌∙◌}
 use native.Mathlib.Omega.{arith}
-use borrow.Author.Rules.{rules}
 use Rattle.reader.proofs.Stack.{as_long, framed}
 use Rattle.reader.proofs.open.push.Goals as goal
 

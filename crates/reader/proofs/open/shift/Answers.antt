@@ -25,6 +25,9 @@ overflow_add-result c =
 pub returns : goal.returns
 returns c =
     let a = c in
-    let m = a.args.opens in record { sized = c.push.ensures.sized; shifted = λ s i.
+    let m = a.args.opens in record {
+      sized = c.push.ensures.sized;
+      shifted = λ s i.
           rw (c.push.ensures.framed s, c.counting-f.ensures s, c.kind.ensures)
-          (shifted (move_of m) (pushes m c.if-how.false) _ _ _ _ _ _ _ _ (c.opened.ensures s i)) }
+          (shifted (move_of m) (pushes m c.if-how.false) _ _ _ _ _ _ _ _ (c.opened.ensures s i));
+    }

@@ -1,6 +1,5 @@
 -- `reader::pass::begin` meets its contract: by the screen and the first token.
 use mathlib.Core.Path.{sym, ◌∙◌}
-use borrow.Author.Rules.{rules}
 use Rattle.reader.proofs.Handed.{screens, begins, fails}
 use Rattle.reader.proofs.pass.begin.Goals as goal
 

@@ -1,13 +1,9 @@
 -- `reader::pass::pass` meets its contract: every turn keeps what is read in all, and takes a token or leaves a block.
-use Prim.Native.Nat.{◌≤◌}
-use mathlib.Core.Path.{◌≡◌, refl, ◌∙◌}
+use mathlib.Core.Path.{refl, ◌∙◌}
 use native.Mathlib.Omega.{arith}
-use borrow.Author.Rules.{rules}
-use lib.ListN.{length}
 use Rattle.file.proofs.Laws.{stored_length}
-use Rattle.reader.specs.Passed.{Further}
-use Rattle.reader.proofs.Turning.{now, sound_depth}
-use Rattle.reader.proofs.Tally.{left, none_yet, one_more, no_more, over, refused}
+use Rattle.reader.proofs.Turning.{sound_depth}
+use Rattle.reader.proofs.Tally.{none_yet, one_more, no_more, over, refused}
 use Rattle.reader.proofs.Steps.{room, emits, ends, backs, lasts, back_lasts, goes, stops}
 use Rattle.reader.proofs.pass.pass.Goals as goal
 

@@ -1,5 +1,4 @@
 -- `reader::reading::read` meets its contract: a text that is begun is read from its first state on.
-use borrow.Author.Rules.{rules}
 use Rattle.reader.proofs.Handed.{by_refusal}
 use Rattle.reader.proofs.reading.read.Goals as goal
 

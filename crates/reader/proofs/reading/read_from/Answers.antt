@@ -1,5 +1,4 @@
 -- `reader::reading::read_from` meets its contract: the first pass counts, and the second stores what was counted.
-use borrow.Author.Rules.{rules}
 use Rattle.reader.proofs.Handed.{by_stop, by_on, by_room, by_filling}
 use Rattle.reader.proofs.reading.read_from.Goals as goal
 

@@ -1,6 +1,5 @@
 -- `Record::of_bytes` meets its contract: each field is the number that `little::number` reads at the field's offset.
 use mathlib.Core.Path.{◌∙◌}
-use borrow.Author.Rules.{rules}
 use Rattle.little.proofs.Laws.{one}
 use Rattle.record.specs.Bytes.{decoded}
 use Rattle.record.proofs.Record.of_bytes.Goals as goal

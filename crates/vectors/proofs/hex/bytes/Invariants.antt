@@ -1,12 +1,8 @@
 -- `hex::bytes` meets its contract: each turn puts the byte of the next two digits, until there are none or no room.
 use Prim.Native.Nat.{◌*◌, ◌-◌, ◌/◌}
-use borrow.Author.Rules.{rules}
-use borrow.Author.Tests.{ltb-true, ltb-false}
-use native.Mathlib.Omega.{arith}
 use lib.ListN.{length, drop}
 use Rattle.vectors.specs.Hex.{pairs}
-use Rattle.vectors.proofs.Laws.{pairs_more, pairs_end}
-use Rattle.vectors.proofs.Putting.{Putting, begun, more, all, full}
+use Rattle.vectors.proofs.Putting.{Putting}
 use Rattle.vectors.proofs.hex.bytes.Given as goal
 
 abbrev pub invariant-loop-n : goal.invariant-loop-n

@@ -1,5 +1,4 @@
 -- `hex::digit` meets its contract: the tests are those of the definition, and the digits of each test are few.
-use borrow.Author.Rules.{rules}
 use native.Mathlib.Omega.{arith}
 use Rattle.vectors.proofs.Laws.{between}
 use Rattle.vectors.proofs.hex.digit.Goals as goal

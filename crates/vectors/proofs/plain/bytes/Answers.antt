@@ -1,12 +1,8 @@
 -- `plain::bytes` meets its contract: each turn puts the first byte that is written from here on, until there is none or no room.
-use Prim.Native.Nat.{◌-◌, ◌≤◌}
-use borrow.Author.Rules.{rules}
 use borrow.Author.Tests.{ltb-true, ltb-false}
 use native.Mathlib.Omega.{arith}
-use lib.ListN.{length, drop}
-use Rattle.vectors.specs.Plain.{meant}
 use Rattle.vectors.proofs.Laws.{meant_end}
-use Rattle.vectors.proofs.Putting.{Putting, begun, more, all, full}
+use Rattle.vectors.proofs.Putting.{begun, more, all, full}
 use Rattle.vectors.proofs.plain.bytes.Goals as goal
 
 pub loop-i-init : goal.loop-i-init

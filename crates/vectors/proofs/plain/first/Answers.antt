@@ -1,7 +1,6 @@
 -- `plain::first` meets its contract: the tests say whether the byte is written as itself.
 use Prim.Native.Nat.{◌-◌, ◌<◌}
 use mathlib.Core.Path.{◌≡◌}
-use borrow.Author.Rules.{rules}
 use native.Mathlib.Omega.{arith}
 use lib.ListN.{length, get_or}
 use Rattle.vectors.proofs.Laws.{backslash, meant_escaped, meant_itself}

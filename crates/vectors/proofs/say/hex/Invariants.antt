@@ -1,7 +1,6 @@
 -- `vectors::say::hex` stays within the bytes that it prints.
 use Prim.Native.Nat.{◌-◌, ◌≤◌}
 use lib.ListN.{length}
-use borrow.Author.Rules.{rules}
 use Rattle.vectors.proofs.say.hex.Given as goal
 
 abbrev pub invariant-loop-i : goal.invariant-loop-i

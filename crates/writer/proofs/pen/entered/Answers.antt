@@ -1,5 +1,4 @@
 -- `entered` meets its contract: the form says what the record does to the open blocks.
-use borrow.Author.Rules.{rules}
 use Rattle.writer.proofs.pen.entered.Goals as goal
 
 pub shift-requires : goal.shift-requires

@@ -1,11 +1,9 @@
 -- `reach_owner` meets its contract: a block that does not have the record ends, and is not the last.
 use mathlib.Core.Path.{sym, ◌∙◌}
 use native.Mathlib.Omega.{arith}
-use borrow.Author.Rules.{rules}
 use Rattle.reader.specs.Open.{frames_in}
 use Rattle.reader.proofs.Stack.{frames_length}
 use Rattle.render.specs.Plain.{bare}
-use Rattle.writer.specs.Penned.{Ended}
 use Rattle.writer.proofs.Ending.{shallow, fewer, ended_none, ended_inner, ended_more}
 use Rattle.writer.proofs.pen.reach_owner.Goals as goal
 

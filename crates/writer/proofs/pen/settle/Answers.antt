@@ -1,16 +1,10 @@
 -- `settle` meets its contract: only options are ended, by a record that has no form among them, and the block after them has none.
-use Prim.Native.Nat.{ℕ, ◌≤◌}
-use mathlib.Core.Path.{◌≡◌, refl, sym, ◌∙◌}
-use mathlib.Core.List.{List, []}
+use mathlib.Core.Path.{refl, sym, ◌∙◌}
+use mathlib.Core.List.{[]}
 use native.Mathlib.Omega.{arith}
-use borrow.Author.Rules.{rules}
-use lib.ListN.{length}
 use Rattle.parser.specs.Kept.{frame_of}
 use Rattle.render.specs.Plain.{bare}
-use Rattle.lines.specs.Put.{greatest}
-use Rattle.writer.specs.declared.pen.Taken.{Taken}
-use Rattle.writer.specs.Penned.{Settled}
-use Rattle.writer.proofs.Taking.{as_found, turns, fewer_turns, settled_formed, settled_other, settled_line}
+use Rattle.writer.proofs.Taking.{as_found, fewer_turns, settled_formed, settled_other, settled_line}
 use Rattle.writer.proofs.pen.settle.Goals as goal
 
 pub loop-out-init : goal.loop-out-init

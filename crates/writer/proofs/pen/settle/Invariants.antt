@@ -1,16 +1,13 @@
 -- `settle` meets its contract: only options are ended, by a record that has no form among them, and the block after them has none.
 use Prim.Native.Nat.{ℕ, ◌≤◌}
-use mathlib.Core.Path.{◌≡◌, refl, sym, ◌∙◌}
-use mathlib.Core.List.{List, []}
-use native.Mathlib.Omega.{arith}
-use borrow.Author.Rules.{rules}
+use mathlib.Core.Path.{◌≡◌}
+use mathlib.Core.List.{List}
 use lib.ListN.{length}
-use Rattle.parser.specs.Kept.{frame_of}
 use Rattle.render.specs.Plain.{bare}
 use Rattle.lines.specs.Put.{greatest}
 use Rattle.writer.specs.declared.pen.Taken.{Taken}
 use Rattle.writer.specs.Penned.{Settled}
-use Rattle.writer.proofs.Taking.{as_found, turns, fewer_turns, settled_formed, settled_other, settled_line}
+use Rattle.writer.proofs.Taking.{turns}
 use Rattle.writer.proofs.pen.settle.Given as goal
 
 -- what settles the record from here settles it from the start

@@ -3,7 +3,7 @@ use mathlib.Core.Path.{◌∙◌}
 use native.Mathlib.Omega.{arith}
 use Rattle.reader.specs.Open.{frames_in}
 use Rattle.reader.proofs.Stack.{frames_length}
-use Rattle.writer.proofs.Ending.{shallow, fewer, Closed, closed_none, closed_more, closed_last}
+use Rattle.writer.proofs.Ending.{shallow, fewer, closed_none, closed_more, closed_last}
 use Rattle.writer.proofs.pen.write_ends.Goals as goal
 
 pub loop-innermost-init : goal.loop-innermost-init

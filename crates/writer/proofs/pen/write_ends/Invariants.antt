@@ -1,9 +1,5 @@
 -- `write_ends` meets its contract: the innermost block ends, until none is around it.
-use mathlib.Core.Path.{◌∙◌}
-use native.Mathlib.Omega.{arith}
-use Rattle.reader.specs.Open.{frames_in}
-use Rattle.reader.proofs.Stack.{frames_length}
-use Rattle.writer.proofs.Ending.{shallow, fewer, Closed, closed_none, closed_more, closed_last}
+use Rattle.writer.proofs.Ending.{Closed}
 use Rattle.writer.proofs.pen.write_ends.Given as goal
 
 abbrev pub invariant-loop-innermost : goal.invariant-loop-innermost

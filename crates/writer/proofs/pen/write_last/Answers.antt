@@ -1,5 +1,4 @@
 -- `write_last` meets its contract: the records of the stretch, and then the ends of the blocks.
-use borrow.Author.Rules.{rules}
 use Rattle.writer.proofs.Writing.{wrote_ends}
 use Rattle.writer.proofs.pen.write_last.Goals as goal
 

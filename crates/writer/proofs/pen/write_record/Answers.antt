@@ -1,5 +1,4 @@
 -- `write_record` meets its contract: blocks end, the line of the options ends, and the record is stated and entered.
-use borrow.Author.Rules.{rules}
 use Rattle.writer.proofs.Writing.{stating_in, entering_in, record_written}
 use Rattle.writer.proofs.pen.write_record.Goals as goal
 

@@ -1,13 +1,10 @@
 -- `write_stretch` meets its contract: the records before k are written.
 use Prim.Native.Nat.{◌-◌, ◌≤◌}
-use native.Mathlib.Omega.{arith}
 use mathlib.Core.List.{map}
-use borrow.Author.Rules.{rules}
 use Rattle.file.specs.File.{front}
 use Rattle.reader.specs.Open.{blocks_of}
 use Rattle.render.specs.Plain.{bare}
 use Rattle.writer.specs.Penned.{Wrote}
-use Rattle.writer.proofs.Stretching.{the_record, never_past, wrote_none, next_admitted, wrote_next, wrote_all}
 use Rattle.writer.proofs.pen.write_stretch.Given as goal
 
 abbrev pub invariant-loop-k : goal.invariant-loop-k

@@ -1,14 +1,12 @@
 -- `write_stretches` meets its contract: each pass gives the next records, which are written; after the last the blocks end.
 use Prim.Native.Nat.{◌/◌, ◌≤◌}
-use mathlib.Core.Path.{◌≡◌, refl, ap, ◌∙◌}
+use mathlib.Core.Path.{refl, ap, ◌∙◌}
 use native.Mathlib.Omega.{arith}
-use borrow.Author.Rules.{rules}
 use lib.ListN.{length}
-use Rattle.parser.specs.Code.{rest_of}
 use Rattle.checker.specs.Passing.{stretch}
 use Rattle.checker.proofs.Laying.{laid_length}
 use Rattle.checker.proofs.Following.{went_on, went_over, went_wrong}
-use Rattle.writer.proofs.Going.{So, so_start, next_admitted, so_next, last_admitted, so_last, so_refused}
+use Rattle.writer.proofs.Going.{so_start, next_admitted, so_next, last_admitted, so_last, so_refused}
 use Rattle.writer.proofs.pen.write_stretches.Goals as goal
 
 pub loop-c-init : goal.loop-c-init

@@ -1,9 +1,0 @@
--- `indexes::long::file_room` has as many bytes as its type says, by the law on the length of a repetition.
-use mathlib.Core.Path.{sym}
-use Prim.Native.Nat.{ℕ}
-use lib.ListN.{length-replicate}
-use Rattle.indexes.proofs.long.file_room.Statement.{statement}
-use Rattle.indexes.proofs.long.file_room.Tie as tie
-
-pub file_room_spec : {M : Type 1} → statement M
-file_room_spec = tie.close (tie.spec (λ c. sym (length-replicate {A = ℕ} 720036 0)))

@@ -1,9 +1,0 @@
--- `indexes::long::text_room` has as many bytes as its type says, by the law on the length of a repetition.
-use mathlib.Core.Path.{sym}
-use Prim.Native.Nat.{ℕ}
-use lib.ListN.{length-replicate}
-use Rattle.indexes.proofs.long.text_room.Statement.{statement}
-use Rattle.indexes.proofs.long.text_room.Tie as tie
-
-pub text_room_spec : {M : Type 1} → statement M
-text_room_spec = tie.close (tie.spec (λ c. sym (length-replicate {A = ℕ} 400031 0)))

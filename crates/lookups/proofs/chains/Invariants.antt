@@ -1,0 +1,10 @@
+-- `lookups::chains` ends: it asks for one index more than there are records.
+use Prim.Native.Nat.{◌+◌, ◌-◌, ◌/◌, ◌≤◌}
+use lib.ListN.{length}
+use Rattle.lookups.proofs.chains.Given as goal
+
+abbrev pub invariant-loop-i : goal.invariant-loop-i
+invariant-loop-i l = l.i ≤ length l.file / 36 + 1
+
+abbrev pub decreases-loop-i : goal.decreases-loop-i
+decreases-loop-i l = length l.file / 36 + 1 - l.i
