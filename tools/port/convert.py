@@ -420,8 +420,7 @@ def convert(crate, folder, info):
         top = head if not inv_out else ["-- The answers that the search does not find."]
         with open(os.path.join(folder, "Answers.antt"), "w", encoding="utf-8") as f:
             f.write("\n".join(head + keep + [f"use {mod}.Goals as goal", "", "\n\n".join(helper_out + ans_out), ""]))
-    os.makedirs(f"/tmp/walks/{crate}/" + "/".join(rel), exist_ok=True)
-    os.replace(path, f"/tmp/walks/{crate}/" + "/".join(rel) + "/Proof.antt")
+    os.remove(path)
     return "; ".join(report) if report else "turned"
 
 
@@ -447,8 +446,11 @@ def split_tuple(s):
 def main():
     crate = sys.argv[1]
     only = sys.argv[2:]
-    out = f"/tmp/names-{crate}"
-    subprocess.run(["rm", "-rf", out])
+    with tempfile.TemporaryDirectory(prefix="names-") as room:
+        return turned(crate, only, os.path.join(room, "names"))
+
+
+def turned(crate, only, out):
     r = subprocess.run(["rt", "check", "--generated", out, "--old-names"], cwd=f"crates/{crate}", stdout=subprocess.PIPE, stderr=subprocess.STDOUT, text=True)
     if not os.path.exists(out + "/names.json"):
         print("\n".join(l for l in r.stdout.splitlines() if "must-fail" not in l)[:3000])

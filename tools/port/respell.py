@@ -1,7 +1,7 @@
 #!/usr/bin/env python3
 """Brings the repository's own definitions, constructors, fields and lemmas to the spelling of today's Rattle: words in snake case.
 
-usage: python3 tools/port/respell.py          at the top of the repository, once, after /opt/rattle/port/port.py
+usage: python3 tools/port/respell.py          at the top of the repository, once, after the kit's port.py
 
 `rowAt` becomes `row_at` and `held-all` becomes `held_all`; types and modules keep their capitals, and names of kinds stay in capitals
 (`SITE-CLASS` is `SITE_CLASS`). Only names that a file of specs/ or proofs/ of this repository declares are turned, in the files that declare
