@@ -5,10 +5,12 @@
 
 use lexer::Screened;
 use reader::reading;
+use std::alloc::AllocError;
 
-fn main() {
-    let mut text = [32u8; 16777217];
+fn main(rt: HostRuntime) -> Result<(), AllocError> {
+    let mut text = vec![in rt.alloc(); 32u8; 16777217]?;
     spaces(&mut text);
+    Ok(())
 }
 
 fn spaces(text: &mut [u8]) {

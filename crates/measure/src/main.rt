@@ -3,23 +3,25 @@
 // follows it, and is checked against the text as often.
 #![tactic(auto)]
 
-ghost use Rattle.std.specs.Prelude.{◌≡◌, length};
+ghost use Rattle.std.specs.Prelude.{◌≡◌, IfOk, vec_len};
 
 use reader::reading;
 use refusal::Refusal;
+use std::alloc::{AllocError, Global};
 use vectors::say;
 
-fn main() {
-    let mut input = room();
+fn main(rt: HostRuntime) -> Result<(), AllocError> {
+    let mut input = room(rt.alloc())?;
     let n = io::read_full(0, &mut input);
     measure(&input[..n]);
+    Ok(())
 }
 
 // Room for the longest text that the library reads, with the line before it, and for a million records.
-fn room() -> [u8; 54800000]
-    ensures { 54800000 ≡ length result }
+fn room(alloc: Global) -> Result<Vec<u8>, AllocError>
+    ensures { IfOk result (λ v. 54800000 ≡ vec_len v) }
 {
-    [0; 54800000]
+    Ok(vec![in alloc; 0; 54800000]?)
 }
 
 fn measure(input: &[u8]) {
