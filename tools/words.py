@@ -1,8 +1,8 @@
 #!/usr/bin/env python3
 """words.py: writes what follows from the word lists of crates/word/specs/Words.antt: the stems, keys and counts of specs/Lookup.antt,
-the numbers of src/names.rt, the arms of src/nodes.rt, src/spelling.rt and src/letters.rt, and the answers to them in proofs/nodes, proofs/spelling
-and proofs/letters; the arms of src/slots.rt, and in src/lib.rt the slot of a name, by shifts that a search finds.
-Run at the repository's root after a change of those lists, then `rt fmt` in crates/word. The proofs, and not this script, say that the tables are right."""
+the numbers of src/names.rt, the tables of src/nodes.rt, src/spelling.rt and src/slots.rt, and in src/slots.rt the slot of a name, by shifts that
+a search finds. Run at the repository's root after a change of those lists, then `rt fmt` in crates/word. Where the number of words or nodes
+changed, the numbers in proofs/nodes and proofs/spelling are to be changed as well. The proofs, and not this script, say that the tables are right."""
 import itertools
 import re
 
@@ -10,10 +10,7 @@ WORDS = "crates/word/specs/Words.antt"
 LOOKUP = "crates/word/specs/Lookup.antt"
 NAMES = "crates/word/src/names.rt"
 NODES = "crates/word/src/nodes.rt"
-PROOF = "crates/word/proofs/nodes/next/Answers.antt"
-SPELT = "crates/word/src/%s.rt"
-SPELT_PROOF = "crates/word/proofs/%s/%s/Answers.antt"
-LIB = "crates/word/src/lib.rt"
+SPELT = "crates/word/src/spelling.rt"
 SLOTS = "crates/word/src/slots.rt"
 
 
@@ -69,45 +66,33 @@ replaced(LOOKUP, "\nword_count = ", "\n", str(len(words)))
 replaced(LOOKUP, "\nnode_count = ", "\n", str(len(nodes)))
 with open(NAMES, "w") as f:
     f.write("// The number of each word: the key words first, then the words of values and those that stand inside UNITS.\n")
+    f.write("// Numbers and no enum, since the definitions number the words by their place, and the tables are read by these numbers.\n")
     f.write("pub const KEYS: u8 = %d;\n\npub const WORDS: u8 = %d;\n\n" % (len(keys), len(words)))
     f.write("\n".join("pub const %s: u8 = %d;\n" % (w, k) for k, w in enumerate(words, 1)))
-replaced(NODES, "    match key {\n", "        _ => 0,", "".join("        0x%x => %d,\n" % (key(w), k) for k, w in enumerate(nodes, 1)))
 
 
-def answered(proof, arms, by):
-    """The answers to the arms of a `match`, named by what they match, before the one to all else."""
-    text = open(proof).read()
-    first, last = text.index("\npub returns-in-"), text.index("\npub returns-in_default")
-    opened = re.search(r"\n(unfolding .*)\n", text[first:])[1]
-    answer = "\npub returns-in-{0} : goal.returns-in-{0}\n{1}\nreturns-in-{0} c =\n    {2} _ c.in-{0}.is refl\n"
-    open(proof, "w").write(text[:first] + "".join(answer.format(arm, opened, by) for arm in arms) + text[last:])
+def table(path, name, form, rows):
+    """A static array: its length, and its rows, one a line."""
+    text = open(path).read()
+    start = re.search(r"static %s: \[%s; \d+\] = \[\n" % (name, re.escape(form)), text)[0]
+    replaced(path, start, "];", "".join("    %s,\n" % row for row in rows))
+    text = open(path).read()
+    open(path, "w").write(text.replace(start, "static %s: [%s; %d] = [\n" % (name, form, len(rows))))
 
 
-answered(PROOF, map(key, nodes), "at_key")
-
-
-def spelt(module, name, form, numbers):
-    """The arms of a function of src/spelling.rt or src/letters.rt, where it has a number for a word, and the answers to them."""
-    text = open(SPELT % module).read()
-    start = text[text.index("fn %s(k: u8)" % name):]
-    start = start[: start.index("match k {\n")] + "match k {\n"
-    arms = [(k, form % n) for k, n in enumerate(numbers, 1) if n]
-    replaced(SPELT % module, start, "        _ => 0,", "".join("        %d => %s,\n" % arm for arm in arms))
-    proof = SPELT_PROOF % (module, name)
-    replaced(proof, "\nlisted =\n", "\n\n", rows(["%d ∷" % k for k, _ in arms] + ["[]"], 140))
-    answered(proof, [k for k, _ in arms], "at_word what")
+table(NODES, "NODES", "(u64, u8)", ["(0x%x, %d)" % row for row in sorted((key(w), k) for k, w in enumerate(nodes, 1))])
 
 
 def number_of(letters):
     return int.from_bytes(letters.encode(), "little")
 
 
-spelt("spelling", "count", "%d", [len(w) for w in words])
-for part, name in enumerate(["first", "second", "third", "fourth"]):
-    spelt("spelling", name, "0x%x", [number_of(w[8 * part:8 * part + 8]) for w in words])
-spelt("letters", "short", "0x%x", [len(w) <= 8 and number_of(w) for w in words])
-spelt("letters", "head", "0x%x", [8 < len(w) <= 16 and number_of(w[:8]) for w in words])
-spelt("letters", "rest", "0x%x", [8 < len(w) <= 16 and number_of(w[8:]) for w in words])
+def letters(w):
+    eights = [number_of(w[8 * n:8 * n + 8]) for n in range(4)]
+    return "Letters(%d, [%s])" % (len(w), ", ".join("0x%x" % e if e else "0" for e in eights))
+
+
+table(SPELT, "TABLE", "Letters", [letters(w) for w in [""] + words])
 
 
 def apart(slot, names):
@@ -137,19 +122,9 @@ def mixed(w, shifts):
 
 
 def slots(name, size, held, slot):
-    """The arms of a function of src/slots.rt, and the slot in src/lib.rt. The slots without a word share numbers above those of the words, some
-    twelve slots a number, as fit a line; they lie scattered, since of neighbours the compiler makes tests of ranges and no table."""
-    empty = [h for h in range(size - 1) if h not in held]
-    arms = [([h], number[w]) for h, w in held.items() if h != size - 1]
-    shared = len(empty) // 12 + 3
-    arms += [(empty[n::shared], len(words) + 1 + n) for n in range(shared)]
-    text = open(SLOTS).read()
-    start = text[text.index("fn %s(slot: u64)" % name):]
-    start = start[: start.index("match slot {\n")] + "match slot {\n"
-    lines = ["        %s => %d,\n" % (" | ".join(map(str, hs)), k) for hs, k in sorted(arms)]
-    last = number[held[size - 1]] if size - 1 in held else 255
-    replaced(SLOTS, start, "    }\n", "".join(lines) + "        _ => %d,\n" % last)
-    replaced(LIB, "slots::%s(" % name, ");", "(%s) %% %d" % (slot, size))
+    """The words of the slots, 0 where there is none, and in the function the slot."""
+    table(SLOTS, name.upper(), "u8", [number[held[h]] if h in held else 0 for h in range(size)])
+    replaced(SLOTS, "    %s[(" % name.upper(), " as usize]", "(%s) %% %d)" % (slot, size))
 
 
 choices = itertools.chain(*(itertools.combinations(range(1, 64), n) for n in (3, 4, 5)))

@@ -19,207 +19,126 @@
 #![tactic(auto)]
 
 use entry::Entry;
-use index::Sought;
-use refusal::Refusal;
-use vectors::{hex, plain, say};
+use std::alloc::{AllocError, Global};
+use std::io;
+use vectors::say::{Answer, Found, Hex};
+use vectors::{hex, plain};
 
 mod long;
 mod many;
 
-// Each line in turn.
-pub fn lines(input: &[u8]) {
-    let mut at = 0;
-    while at < input.len() {
-        let stop = vectors::next_of(b'\n', input, at);
-        line(&input[at..stop]);
-        at = stop + 1;
-    }
-}
+// The bytes of an index that are looked at, and of a buffer that is lent for one.
+const INDEX: usize = 2048;
 
-fn line(part: &[u8]) {
-    if part.len() == 0 {
-        return;
-    }
-    let letter = part[0];
+// The answers to a line.
+pub fn answer(rt: &(impl Print + AllocGlobal), letter: u8, fields: &[u8]) -> io::Result<()> {
     match letter {
-        b'm' => long::made(&part[1..], false),
-        b'l' => long::made(&part[1..], true),
-        _ => given(letter, &part[1..]),
+        b'm' => long::made(rt, fields, false),
+        b'l' => long::made(rt, fields, true),
+        _ => given(rt, letter, fields).unwrap_or(Ok(())),
     }
-    say::newline();
 }
 
-fn answer(a: Refusal) {
-    say::number(a.number as u64);
-    say::number(a.place as u64);
-    say::number(a.line as u64);
+// The other forms, where their fields are all there. Two of these have no index for all of their questions.
+fn given(rt: &(impl Print + AllocGlobal), letter: u8, fields: &[u8]) -> Option<io::Result<()>> {
+    let (text, fields) = vectors::cut(b'|', fields)?;
+    let (file, fields) = vectors::cut(b'|', fields)?;
+    let (index, questions) = match letter {
+        b'b' | b'c' => (&fields[..0], fields),
+        _ => vectors::cut(b'|', fields)?,
+    };
+    Some(asked(rt, letter, [text, file, index], questions))
 }
 
-fn given(letter: u8, fields: &[u8]) {
-    let stop = vectors::next_of(b'|', fields, 0);
-    if stop < fields.len() {
-        let from = stop + 1;
-        let end = vectors::next_of(b'|', fields, from);
-        if end < fields.len() {
-            let after = end + 1;
-            asked(
-                letter,
-                &fields[0..stop],
-                &fields[from..end],
-                &fields[after..],
-            );
+fn asked(
+    rt: &(impl Print + AllocGlobal),
+    letter: u8,
+    fields: [&[u8]; 3],
+    questions: &[u8],
+) -> io::Result<()> {
+    let held = Held::of(rt.alloc(), fields)?;
+    for question in questions.split(|&b| b == b'|') {
+        print!(rt; ";")?;
+        match letter {
+            b'b' => held.build(rt, question)?,
+            b'c' => held.check(rt, &hex::decoded(rt.alloc(), question, INDEX)?)?,
+            b'e' => held.check_masked(rt, question)?,
+            b'p' => held.check_picked(rt, question)?,
+            b'q' => held.find(rt, question)?,
+            b'n' => held.find_many(rt, question)?,
+            _ => print!(rt; "?")?,
         }
     }
+    Ok(())
 }
 
-// A text of at most 4,096 bytes, and 227 records.
-fn asked(letter: u8, text_field: &[u8], file_field: &[u8], rest: &[u8]) {
-    let mut text = [0u8; 4096];
-    let mut file = [0u8; 8192];
-    let mut none = [0u8; 0];
-    let n = plain::bytes(text_field, &mut text);
-    let m = hex::bytes(file_field, &mut file);
-    match letter {
-        b'b' | b'c' => questions(letter, &text[0..n], &file[0..m], &mut none, rest),
-        _ => beside(letter, &text[0..n], &file[0..m], rest),
+// What a line asks about: a text of at most 4,096 bytes, a file of at most 227 records, and an index.
+#[derive(Drop)]
+struct Held {
+    text: Vec<u8>,
+    file: Vec<u8>,
+    index: Vec<u8>,
+}
+
+impl Held {
+    fn of(alloc: Global, fields: [&[u8]; 3]) -> Result<Self, AllocError> {
+        let [text, file, index] = fields;
+        Ok(Self {
+            text: plain::decoded(alloc, text, 4096)?,
+            file: hex::decoded(alloc, file, 8192)?,
+            index: hex::decoded(alloc, index, INDEX)?,
+        })
     }
-}
 
-// The forms that have one index for all of their questions.
-fn beside(letter: u8, text: &[u8], file: &[u8], rest: &[u8]) {
-    let mut index = [0u8; 2048];
-    let stop = vectors::next_of(b'|', rest, 0);
-    if stop < rest.len() {
-        let n = hex::bytes(&rest[0..stop], &mut index);
-        let next = stop + 1;
-        questions(letter, text, file, &mut index[0..n], &rest[next..]);
+    fn build(&self, rt: &(impl Print + AllocGlobal), digits: &[u8]) -> io::Result<()> {
+        let room = hex::size(digits);
+        if INDEX < room {
+            return Ok(());
+        }
+        let mut out = vec![in rt.alloc(); b'~'; room]?;
+        let built = indexer::build(&self.text, &self.file, &mut out);
+        print!(rt; "{} {}", Answer(built), Hex(&out))
     }
-}
 
-fn questions(letter: u8, text: &[u8], file: &[u8], index: &mut [u8], rest: &[u8]) {
-    let mut at = 0;
-    while at <= rest.len() {
-        let stop = vectors::next_of(b'|', rest, at);
-        question(letter, text, file, index, &rest[at..stop]);
-        at = stop + 1;
+    fn check(&self, rt: &impl Print, index: &[u8]) -> io::Result<()> {
+        let checked = indexer::check(&self.text, &self.file, index);
+        print!(rt; "{} ", Answer(checked.map(|()| 0)))
     }
-}
 
-fn question(letter: u8, text: &[u8], file: &[u8], index: &mut [u8], field: &[u8]) {
-    say::text(b";");
-    match letter {
-        b'b' => room(text, file, field),
-        b'c' => given_index(text, file, field),
-        b'e' => masked(text, file, index, field),
-        b'p' => picked(text, file, index, field),
-        b'q' => sought(text, file, index, field),
-        b'n' => many::asked(text, file, index, field),
-        _ => say::text(b"?"),
+    fn check_masked(&self, rt: &(impl Print + AllocGlobal), digits: &[u8]) -> io::Result<()> {
+        let [mask] = hex::array::<1>(digits);
+        let mut changed = self.index.clone()?;
+        for i in 0..changed.len() {
+            changed[i] ^= mask;
+            self.check(rt, &changed)?;
+            changed[i] ^= mask;
+        }
+        Ok(())
     }
-}
 
-// The size of a buffer, in four digits.
-fn size(digits: &[u8]) -> usize {
-    let mut bytes = [0u8; 2];
-    hex::bytes(digits, &mut bytes);
-    little::number(&[bytes[1], bytes[0] % 16], 0, 2) as usize
-}
-
-fn room(text: &[u8], file: &[u8], digits: &[u8]) {
-    let mut out = [b'~'; 2048];
-    let n = size(digits);
-    if n <= 2048 {
-        built(text, file, &mut out[0..n]);
+    fn check_picked(&self, rt: &(impl Print + AllocGlobal), digits: &[u8]) -> io::Result<()> {
+        let positions = hex::decoded(rt.alloc(), digits, INDEX / Entry::SIZE)?;
+        let mut picked = vec![in rt.alloc(); 0; Entry::SIZE.saturating_mul(positions.len())]?;
+        for (to, from) in positions.iter().enumerate() {
+            take(&self.index, usize::from(*from), &mut picked, to);
+        }
+        self.check(rt, &picked)
     }
-}
 
-fn built(text: &[u8], file: &[u8], out: &mut [u8]) {
-    answer(indexer::build(text, file, out));
-    say::hex(out);
-}
-
-fn given_index(text: &[u8], file: &[u8], digits: &[u8]) {
-    let mut index = [0u8; 2048];
-    let n = hex::bytes(digits, &mut index);
-    answer(indexer::check(text, file, &index[0..n]));
-}
-
-fn masked(text: &[u8], file: &[u8], index: &mut [u8], digits: &[u8]) {
-    let mut mask = [0u8; 1];
-    hex::bytes(digits, &mut mask);
-    each_changed(text, file, index, mask[0]);
-}
-
-fn each_changed(text: &[u8], file: &[u8], index: &mut [u8], mask: u8) {
-    let mut i = 0;
-    while i < index.len() {
-        let kept = index[i];
-        index[i] = kept ^ mask;
-        answer(indexer::check(text, file, index));
-        index[i] = kept;
-        i += 1;
+    fn find(&self, rt: &(impl Print + AllocGlobal), field: &[u8]) -> io::Result<()> {
+        let Some((owner, name)) = field.split_first_chunk::<16>() else {
+            return Ok(());
+        };
+        let owner = u64::from_le_bytes(hex::array(owner)) as usize;
+        let name = plain::decoded(rt.alloc(), name, 256)?;
+        let found = indexer::find(&self.text, &self.file, &self.index, owner, &name);
+        print!(rt; "{} ", Found(found))
     }
-}
-
-fn picked(text: &[u8], file: &[u8], index: &[u8], digits: &[u8]) {
-    let mut positions = [0u8; 128];
-    let mut made = [0u8; 2048];
-    let n = hex::bytes(digits, &mut positions);
-    pick(index, &positions[0..n], &mut made);
-    let stop = Entry::SIZE * n;
-    if stop <= 2048 {
-        answer(indexer::check(text, file, &made[0..stop]));
-    }
-}
-
-fn pick(index: &[u8], positions: &[u8], made: &mut [u8]) {
-    let mut i = 0;
-    while i < positions.len() {
-        take(index, wide(positions[i]), made, i);
-        i += 1;
-    }
-}
-
-fn wide(b: u8) -> usize {
-    b as usize
 }
 
 // Puts the entry at one position of an index at another of a second, where both are there.
-fn take(index: &[u8], from: usize, made: &mut [u8], to: usize) {
+fn take(index: &[u8], from: usize, picked: &mut [u8], to: usize) {
     if from < index.len() / Entry::SIZE {
-        entry::put(entry::read(index, from), made, to);
+        entry::put(entry::read(index, from), picked, to);
     }
-}
-
-fn sought(text: &[u8], file: &[u8], index: &[u8], field: &[u8]) {
-    if field.len() < 16 {
-        return;
-    }
-    let mut owner = [0u8; 8];
-    let mut name = [0u8; 256];
-    hex::bytes(&field[0..16], &mut owner);
-    let n = plain::bytes(&field[16..], &mut name);
-    found(indexer::find(
-        text,
-        file,
-        index,
-        little::number(&owner, 0, 8) as usize,
-        &name[0..n],
-    ));
-}
-
-fn found(s: Sought) {
-    match s {
-        Sought::At(a) => five(0, 0, 0, 1, a),
-        Sought::Nowhere => five(0, 0, 0, 0, 0),
-        Sought::Refused(r) => five(r.number, r.place, r.line, 0, 0),
-    }
-}
-
-fn five(refusal: usize, place: usize, line: usize, there: u64, at: usize) {
-    say::number(refusal as u64);
-    say::number(place as u64);
-    say::number(line as u64);
-    say::number(there);
-    say::number(at as u64);
 }

@@ -1,91 +1,106 @@
 // A long text of one macro with many pins, and its index.
-ghost use Rattle.std.specs.Prelude.{◌≡◌, ◌<◌, ◌≤◌, length};
+ghost use Rattle.std.specs.Prelude.{◌<◌, ◌≤◌};
 
-use crate::{answer, found};
 use entry::Entry;
 use index::Query;
+use reader::reading;
 use record::Record;
-use vectors::{hex, say};
+use std::alloc::{AllocError, Global};
+use std::io;
+use vectors::hex;
+use vectors::say::{Answer, Found};
+
+// The most pins.
+const PINS: usize = 20000;
 
 // The bytes before the first pin, and of one pin.
 const HEAD: usize = 8;
 
 const PIN: usize = 20;
 
-// What is said of a long text, by its numbers; all pins are found in one call as well, where that is asked.
-pub(crate) fn made(digits: &[u8], all: bool) {
-    let mut numbers = [0u8; 15];
-    hex::bytes(digits, &mut numbers);
-    long(
-        three(&numbers, 0),
-        three(&numbers, 3),
-        three(&numbers, 6),
-        three(&numbers, 9),
-        three(&numbers, 12),
-        all,
-    );
-}
-
-fn three(numbers: &[u8], place: usize) -> usize
-    ensures { result < 16777216 }
-{
-    little::number(numbers, place, 3) as usize
-}
-
-fn long(n: usize, step: usize, names: usize, odd: usize, put: usize, all: bool)
-    requires { (n < 16777216) × (step < 16777216) × (names < 16777216) }
-{
-    let mut text = text_room();
-    let mut file = file_room();
-    let mut index = index_room();
-    let length = pins(n, step, names, &mut text);
-    read(&text, length, &mut file, &mut index, odd, put, all);
-}
-
-// Room for 20,000 pins: their text, their records and their entries.
-fn text_room() -> [u8; 400031]
-    ensures { 400031 ≡ length result }
-{
-    [0; 400031]
-}
-
-fn file_room() -> [u8; 720036]
-    ensures { 720036 ≡ length result }
-{
-    [0; 720036]
-}
-
-fn index_room() -> [u8; 320016]
-    ensures { 320016 ≡ length result }
-{
-    [0; 320016]
-}
-
-// Writes the macro with its n pins to the front of the text: how many bytes these are.
-fn pins(n: usize, step: usize, names: usize, text: &mut [u8]) -> usize
-    requires { (n < 16777216) × (step < 16777216) × (names < 16777216) }
-{
-    word(b"MACRO m\n", text, 0);
-    let mut i = 0;
-    let mut k = 0;
-    while i < n {
-        pin(k, text, HEAD + PIN * i);
-        k = stepped(k, step, names);
-        i += 1;
+// What is said of a long text, by its numbers; all pins are found in one call as well, where that is asked. Two letters differ in `all` alone, and
+// a closure for that call would be handed five things.
+pub(crate) fn made(rt: &(impl Print + AllocGlobal), digits: &[u8], all: bool) -> io::Result<()> {
+    let long = Long::of(&hex::array::<15>(digits));
+    if PINS < long.n {
+        return Ok(());
     }
-    let end = HEAD + PIN * n;
-    word(b"END m\nEND LIBRARY\n", text, end);
-    end + 18
+    let text = long.text(rt.alloc())?;
+    let mut file = vec![in rt.alloc(); 0; Record::SIZE * (PINS + 1)]?;
+    let mut index = vec![in rt.alloc(); 0; Entry::SIZE * (PINS + 1)]?;
+    let Ok(records) = reading::read(&text, &mut file) else {
+        return Ok(());
+    };
+    let file = file
+        .get(..Record::SIZE.saturating_mul(records))
+        .unwrap_or(&[]);
+    let built = indexer::build(&text, file, &mut index);
+    print!(rt; ";{} ", Answer(built))?;
+    index.truncate(Entry::SIZE.saturating_mul(built.unwrap_or(0)));
+    print!(rt; "{} ", sum(&index))?;
+    long.confuse(rt, &text, file, &mut index, all)
 }
 
-fn pin(k: usize, text: &mut [u8], place: usize)
-    requires { place ≤ 4294967296 }
-{
-    word(b"PIN ", text, place);
-    word(&name(k), text, place + 4);
-    word(b" END ", text, place + 9);
-    word(&name(k), text, place + 14);
-    word(b"\n", text, place + 19);
+// A long text, by its numbers.
+#[derive(Clone, Copy)]
+struct Long {
+    n: usize,
+    step: usize,
+    names: usize,
+    odd: usize,
+    put: usize,
+
+    ghost small: { (n < 16777216) × (step < 16777216) × (names < 16777216) },
+}
+
+impl Long {
+    fn of(numbers: &[u8]) -> Self {
+        Self {
+            n: hex::three(numbers, 0),
+            step: hex::three(numbers, 3),
+            names: hex::three(numbers, 6),
+            odd: hex::three(numbers, 9),
+            put: hex::three(numbers, 12),
+        }
+    }
+
+    // The macro with its pins.
+    fn text(self, alloc: Global) -> Result<Vec<u8>, AllocError> {
+        let mut text = Vec::new(alloc);
+        text.extend_from_slice(b"MACRO m\n")?;
+        let mut k = 0;
+        for _ in 0..self.n {
+            let name = name(k);
+            text.extend_from_slice(b"PIN ")?;
+            text.extend_from_slice(&name)?;
+            text.extend_from_slice(b" END ")?;
+            text.extend_from_slice(&name)?;
+            text.push(b'\n')?;
+            k = vectors::stepped(k, self.step, self.names);
+        }
+        text.extend_from_slice(b"END m\nEND LIBRARY\n")?;
+        Ok(text)
+    }
+
+    // Finds a pin, and all pins where that is asked, and checks the index with one entry in the place of another.
+    fn confuse(
+        self,
+        rt: &(impl Print + AllocGlobal),
+        text: &[u8],
+        file: &[u8],
+        index: &mut [u8],
+        all: bool,
+    ) -> io::Result<()> {
+        let found = indexer::find(text, file, index, 0, &name(self.put));
+        print!(rt; ";{} ", Found(found))?;
+        if all {
+            print!(rt; ";")?;
+            every(rt, text, file, index, index.len() / Entry::SIZE)?;
+        }
+        double(index, self.put, self.odd);
+        let checked = indexer::check(text, file, index);
+        print!(rt; ";{} ", Answer(checked.map(|()| 0)))
+    }
 }
 
 // The name of a number: `p` and four letters, of which each is four bits.
@@ -103,93 +118,13 @@ fn letter(k: usize) -> u8 {
     b'a' + (k % 16) as u8
 }
 
-// The number so many steps on, in a circle of n.
-fn stepped(k: usize, step: usize, n: usize) -> usize
-    requires { (k < 16777216) × (step < 16777216) × (n < 16777216) }
-    ensures { result < 16777216 }
-{
-    let next = k + step;
-    if next < n {
-        return next;
-    }
-    (next - n) % 16777216
-}
-
-fn word(bytes: &[u8], text: &mut [u8], place: usize)
-    requires { (place ≤ 4294967400) × (length bytes.now ≤ 18) }
-{
-    let mut i = 0;
-    while i < bytes.len() {
-        lay(text, place + i, bytes[i]);
-        i += 1;
-    }
-}
-
-fn lay(text: &mut [u8], place: usize, byte: u8) {
-    if place < text.len() {
-        text[place] = byte;
-    }
-}
-
-fn read(
-    text: &[u8],
-    n: usize,
-    file: &mut [u8],
-    index: &mut [u8],
-    odd: usize,
-    put: usize,
-    all: bool,
-) {
-    if n <= text.len() {
-        let a = reader::reading::read(&text[0..n], file);
-        let count = a.place;
-        if count <= file.len() / Record::SIZE {
-            let stop = Record::SIZE * count;
-            build(&text[0..n], &file[0..stop], index, odd, put, all);
-        }
-    }
-}
-
-fn build(text: &[u8], file: &[u8], index: &mut [u8], odd: usize, put: usize, all: bool) {
-    let a = indexer::build(text, file, index);
-    let count = a.place;
-    say::text(b";");
-    answer(a);
-    if count <= index.len() / Entry::SIZE {
-        let stop = Entry::SIZE * count;
-        say::number(sum(&index[0..stop]));
-        confuse(text, file, &mut index[0..stop], odd, put, all);
-    }
-}
-
 // A sum that tells an order from another.
 fn sum(bytes: &[u8]) -> u64 {
-    let mut s = 0;
-    let mut i = 0;
-    while i < bytes.len() {
-        s = (31 * s + wide(bytes[i])) % 16777213;
-        i += 1;
+    let mut sum = 0;
+    for b in bytes {
+        sum = (31 * sum + u64::from(*b)) % 16777213;
     }
-    s
-}
-
-fn wide(b: u8) -> u64
-    ensures { result < 256 }
-{
-    b as u64
-}
-
-// Finds a pin, and all pins where that is asked, and checks the index with one entry in the place of another.
-fn confuse(text: &[u8], file: &[u8], index: &mut [u8], odd: usize, put: usize, all: bool) {
-    say::text(b";");
-    found(indexer::find(text, file, index, 0, &name(put)));
-    if all {
-        say::text(b";");
-        every(text, file, index, index.len() / Entry::SIZE);
-    }
-    double(index, put, odd);
-    say::text(b";");
-    answer(indexer::check(text, file, index));
+    sum
 }
 
 // Puts the entry at one position at another as well.
@@ -201,49 +136,31 @@ fn double(index: &mut [u8], from: usize, to: usize) {
 }
 
 // As many queries as there are entries: one for each pin, by its name in the text, and one by what stands in the place of another pin's.
-fn every(text: &[u8], file: &[u8], index: &[u8], n: usize) {
-    let mut queries = query_room();
-    let mut answers = answer_room();
+fn every(
+    rt: &(impl Print + AllocGlobal),
+    text: &[u8],
+    file: &[u8],
+    index: &[u8],
+    n: usize,
+) -> io::Result<()> {
     if n <= 20001 {
-        let stop = Query::SIZE * n;
-        let end = Query::ANSWER * n;
-        ask(n, &mut queries);
-        total(text, file, index, &queries[0..stop], &mut answers[0..end]);
+        let queries = queries(rt.alloc(), n)?;
+        let mut answers = vec![in rt.alloc(); 0; Query::ANSWER * n]?;
+        let found = indexer::find_many(text, file, index, text, &queries, &mut answers);
+        print!(rt; "{} {} ", Answer(found), sum(&answers))?;
     }
+    Ok(())
 }
 
-// Room for the queries of 20,000 pins and one more, and for their answers.
-fn query_room() -> [u8; 240012]
-    ensures { 240012 ≡ length result }
-{
-    [0; 240012]
-}
-
-fn answer_room() -> [u8; 80004]
-    ensures { 80004 ≡ length result }
-{
-    [0; 80004]
-}
-
-// Writes n queries; their owner is the macro, which is at nought.
-fn ask(n: usize, queries: &mut [u8])
+// So many queries; their owner is the macro, which is at nought.
+fn queries(alloc: Global, n: usize) -> Result<Vec<u8>, AllocError>
     requires { n ≤ 20001 }
 {
-    let mut i = 0;
-    while i < n {
-        query(queries, Query::SIZE * i, HEAD + PIN * i + 4);
-        i += 1;
+    let mut queries = vec![in alloc; 0; Query::SIZE * n]?;
+    for i in 0..n {
+        let start = (HEAD + PIN * i + 4) as u64;
+        little::lay(&mut queries, Query::SIZE * i + Query::START, 4, start);
+        little::lay(&mut queries, Query::SIZE * i + Query::LEN, 4, 5);
     }
-}
-
-fn query(queries: &mut [u8], base: usize, start: usize)
-    requires { base ≤ 240012 }
-{
-    little::lay(queries, base + Query::START, 4, start as u64);
-    little::lay(queries, base + Query::LEN, 4, 5);
-}
-
-fn total(text: &[u8], file: &[u8], index: &[u8], queries: &[u8], answers: &mut [u8]) {
-    answer(indexer::find_many(text, file, index, text, queries, answers));
-    say::number(sum(answers));
+    Ok(queries)
 }

@@ -1,94 +1,60 @@
 // Many look-ups in one call, and each of them by a call of its own.
-use crate::{answer, size};
-use index::{Query, Sought};
-use vectors::{hex, plain, say};
+use crate::{Held, INDEX};
+use index::Query;
+use std::io;
+use vectors::say::{Answer, Hex};
+use vectors::{hex, plain};
 
 // The `at` of what is not found.
-const NOWHERE: u64 = 4294967295;
+const NOWHERE: usize = 4294967295;
 
-pub(crate) fn asked(text: &[u8], file: &[u8], index: &[u8], field: &[u8]) {
-    if field.len() < 4 {
-        return;
-    }
-    let stop = vectors::next_of(b':', field, 4);
-    if stop < field.len() {
-        let after = stop + 1;
-        lent(
-            text,
-            file,
-            index,
-            size(&field[0..4]),
-            &field[4..stop],
-            &field[after..],
+impl Held {
+    // At most 170 queries, and names of 1,024 bytes.
+    pub(crate) fn find_many(
+        &self,
+        rt: &(impl Print + AllocGlobal),
+        field: &[u8],
+    ) -> io::Result<()> {
+        let Some((room, field)) = field.split_first_chunk::<4>() else {
+            return Ok(());
+        };
+        let Some((queries, names)) = vectors::cut(b':', field) else {
+            return Ok(());
+        };
+        let room = hex::size(room);
+        if INDEX < room {
+            return Ok(());
+        }
+        let queries = hex::decoded(rt.alloc(), queries, 2048)?;
+        let names = plain::decoded(rt.alloc(), names, 1024)?;
+        let mut out = vec![in rt.alloc(); b'~'; room]?;
+        let found = indexer::find_many(
+            &self.text,
+            &self.file,
+            &self.index,
+            &names,
+            &queries,
+            &mut out,
         );
+        print!(rt; "{} {} ", Answer(found), Hex(&out))?;
+        self.find_each(rt, &queries, &names)
+    }
+
+    // The same look-ups, one after the other.
+    fn find_each(&self, rt: &impl Print, queries: &[u8], names: &[u8]) -> io::Result<()> {
+        for query in queries.chunks_exact(Query::SIZE) {
+            let owner = little::word32(query, Query::OWNER);
+            let name = name_of(query, names);
+            let found = indexer::find(&self.text, &self.file, &self.index, owner, name);
+            print!(rt; "{} ", found.unwrap_or(None).unwrap_or(NOWHERE))?;
+        }
+        Ok(())
     }
 }
 
-// At most 170 queries, and names of 1,024 bytes.
-fn lent(text: &[u8], file: &[u8], index: &[u8], room: usize, digits: &[u8], written: &[u8]) {
-    let mut queries = [0u8; 2048];
-    let mut names = [0u8; 1024];
-    let mut out = [b'~'; 2048];
-    let m = hex::bytes(digits, &mut queries);
-    let n = plain::bytes(written, &mut names);
-    if room <= 2048 {
-        found(
-            text,
-            file,
-            index,
-            &names[0..n],
-            &queries[0..m],
-            &mut out[0..room],
-        );
-    }
-}
-
-fn found(text: &[u8], file: &[u8], index: &[u8], names: &[u8], queries: &[u8], out: &mut [u8]) {
-    answer(indexer::find_many(text, file, index, names, queries, out));
-    say::hex(out);
-    say::text(b" ");
-    each(text, file, index, names, queries);
-}
-
-// The same look-ups, one after the other.
-fn each(text: &[u8], file: &[u8], index: &[u8], names: &[u8], queries: &[u8]) {
-    let mut i = 0;
-    while i < queries.len() / Query::SIZE {
-        let base = Query::SIZE * i;
-        one(text, file, index, names, &queries[base..]);
-        i += 1;
-    }
-}
-
-// The look-up of the query at the front.
-fn one(text: &[u8], file: &[u8], index: &[u8], names: &[u8], queries: &[u8]) {
-    let start = little::word32(queries, Query::START);
-    let len = little::word32(queries, Query::LEN);
-    at(indexer::find(
-        text,
-        file,
-        index,
-        little::word32(queries, Query::OWNER),
-        span(names, start, len),
-    ));
-}
-
-// The bytes of a name, or none where they are not all there.
-fn span(names: &[u8], start: usize, len: usize) -> &[u8] {
-    if names.len() < start {
-        return &names[0..0];
-    }
-    if names.len() - start < len {
-        return &names[0..0];
-    }
-    let stop = start + len;
-    &names[start..stop]
-}
-
-fn at(s: Sought) {
-    match s {
-        Sought::At(a) => say::number(a as u64),
-        Sought::Nowhere => say::number(NOWHERE),
-        Sought::Refused(_) => say::number(NOWHERE),
-    }
+// The bytes of the name that a query asks for, or none where they are not all there.
+fn name_of<'a>(query: &[u8], names: &'a [u8]) -> &'a [u8] {
+    let start = little::word32(query, Query::START);
+    let stop = start + little::word32(query, Query::LEN);
+    names.get(start..stop).unwrap_or(&[])
 }

@@ -1,5 +1,6 @@
--- Two records are equal where the five numbers of their 36 bytes are: each part of a record's bytes is the bytes of its number.
-use Prim.Native.Nat.{ℕ, ◌+◌, ◌≤◌}
+-- Two records are equal where the five numbers of their 36 bytes are: each part of a record's bytes is the bytes of its number. And equal parts of
+-- two files hold equal records.
+use Prim.Native.Nat.{ℕ, ◌+◌, ◌*◌, ◌≤◌, ◌<◌}
 use native.Mathlib.Omega.{arith}
 use mathlib.Core.Path.{◌≡◌, refl, sym, ap, ◌∙◌}
 use mathlib.Core.Bool.{Bool, true, false, ◌&&◌, false≢true}
@@ -10,9 +11,11 @@ use lib.Seq.{drop-drop}
 use borrow.Author.Tests.{eq-eqb, eqb-true}
 use Rattle.little.specs.Little.{little, number, Bytes}
 use Rattle.little.proofs.Laws.{little_number, take_bytes, drop_bytes}
+use Rattle.rowfile.proofs.Parts.{part}
 use Rattle.record.specs.declared.Record.{Record}
 use Rattle.record.specs.Bytes.{encoded, decoded}
 use Rattle.record.proofs.Laws.{whole}
+use Rattle.file.specs.File.{record_in}
 use Rattle.verdict.specs.Verdict.{same}
 use Rattle.verdict.proofs.Laws.{same_true, same_false}
 
@@ -84,3 +87,12 @@ module _ (u v : List ℕ) (bu : Bytes u) (bv : Bytes v) (lu : length u ≡ 36) (
   -- two records are equal exactly where the five numbers are
   pub five_same : equal ≡ same (decoded u) (decoded v)
   five_same = decide equal (decoded u) (decoded v) same_of of_same
+
+pub same_parts : (l m : List ℕ) (i c : ℕ) → take (36 * c) (drop (36 * i) l) ≡ take (36 * c) m → (k : ℕ) → k < c → record_in l (i + k) ≡ record_in m k
+same_parts l m i c e k h =
+    let z : 36 * (i + k) ≡ 36 * i + 36 * k = omega arith in
+    rw z
+    (ap decoded (sym (ap (take 36) (drop-drop (36 * k) (36 * i) l))
+    ∙ sym (part (36 * k) 36 (36 * c) (drop (36 * i) l) (omega arith))
+    ∙ ap (λ q. take 36 (drop (36 * k) q)) e
+    ∙ part (36 * k) 36 (36 * c) m (omega arith)))

@@ -4,24 +4,23 @@ use native.Mathlib.Decide.{dec_lt}
 use native.Mathlib.Nat.{not-suc-le-zero}
 use native.Mathlib.Omega.{arith}
 use mathlib.Core.Path.{◌≡◌, refl, sym, ap, ◌∙◌}
-use mathlib.Core.Bool.{true}
+use mathlib.Core.Bool.{Bool, true, false, false≢true}
 use mathlib.Core.List.{List, [], ◌++◌, append_assoc}
+use borrow.Author.Tests.{eqb-true}
+use lib.Dec.{eqb}
 use lib.ListN.{length, length-append, get_or-append}
 use lib.Seq.{get_or-append-add}
+use Rattle.std.specs.Prelude.{Option, Some, None, Ok, IfSome}
+use Rattle.std.specs.Option.{option_eq}
 use Rattle.refusal.specs.declared.Refusal.{Refusal}
 use Rattle.record.specs.declared.Record.{Record}
 use Rattle.grammar.specs.Reading.{Reading, records, refusal_of}
 use Rattle.reader.specs.declared.open.State.{State}
-use Rattle.reader.specs.declared.pass.Passed.{Passed}
-use Rattle.reader.specs.declared.pass.Passed.TheVariants as P
-use Rattle.reader.specs.Passed.{Sound, read_from, follow, stored_all, Further, Passes}
+use Rattle.reader.specs.Passed.{Sound, read_from, follow, stored_all, Further}
 use Rattle.verdict.specs.Verdict.{blank}
 use Rattle.verdict.specs.Meaning.{nth}
-use Rattle.checker.specs.declared.order.Run.{Run}
-use Rattle.checker.specs.declared.order.Ordered.{Ordered}
-use Rattle.checker.specs.declared.order.Ordered.TheVariants as O
 use Rattle.file.specs.File.{record_in}
-use Rattle.checker.specs.Passing.{Fit, Orders, Goes, Ended}
+use Rattle.checker.specs.Passing.{Fit, Orders, Goes}
 use Rattle.checker.proofs.Laying.{laid_at}
 
 pub clash : (rs : List Record) (f : Refusal) → records rs ≡ refusal_of f → ⊥
@@ -59,85 +58,70 @@ fit_right a b h k l = rw (nth_right a b k) at (h (length a + k) (rw (length-appe
 
 -- THE FIRST PASS
 
--- the records given so far, and what the run says of them
-pub record So (s : List ℕ) (start : State) (file : List ℕ) (o : State) (run : Run) : Type 0 where
+-- what a run says of the records given: a file of which so many were found has them in its place
+abbrev pub Says : List ℕ → List Record → Option ℕ → Type 0
+Says file given None = Unit {0}
+Says file given (Some n) = (length given ≡ n) × (n ≤ length file / 36) × (Fit given → (k : ℕ) → k < length given → record_in file k ≡ nth given k)
+
+-- the records given so far, and the run
+pub record So (s : List ℕ) (start : State) (file : List ℕ) (o : State) (run : Option ℕ) : Type 0 where
   pub sound : Sound s o
   pub given : List Record
   pub rest : read_from s start ≡ follow given (read_from s o)
-  pub within : run.done ≤ length file / 36
-  pub count : run.agrees ≡ true → length given ≡ run.done
-  pub each : run.agrees ≡ true → Fit given → (k : ℕ) → k < length given → record_in file k ≡ nth given k
+  pub says : Says file given run
 
-pub so_start : (s : List ℕ) (start : State) (file : List ℕ) (run : Run) → Sound s start → run.done ≡ 0 → So s start file start run
-so_start s start file run d e = record {
-  sound = d;
-  given = [];
-  rest = follow_none (read_from s start);
-  within = omega arith;
-  count = λ _. omega arith;
-  each = λ _ _ k h. absurd (not-suc-le-zero h);
-}
+pub so_start : (s : List ℕ) (start : State) (file : List ℕ) → Sound s start → So s start file start (Some 0)
+so_start s start file d =
+    record { sound = d; given = []; rest = follow_none (read_from s start); says = (refl, omega arith, λ _ k h. absurd (not-suc-le-zero h)) }
 
-module _ (s : List ℕ) (start : State) (file : List ℕ) (o : State) (run : Run) (so : So s start file o run) where
-  -- a stretch of c records more
-  module _ (g : List Record) (c : ℕ) (w : List ℕ) (r : Run) (count : length g ≡ c) (room : c ≤ length w / 36)
-      (go : Goes run c (record_in (stored_all 0 g w)) file r) where
-    more_count : r.agrees ≡ true → length (so.given ++ g) ≡ r.done
-    more_count t = omega (arith, length-append so.given g, so.count (go.agreed t), go.done t)
+says_within : (file : List ℕ) (given : List Record) (run : Option ℕ) → Says file given run → IfSome run (λ n. n ≤ length file / 36)
+says_within file given None h = tt
+says_within file given (Some n) h = h.1
 
-    more_each : r.agrees ≡ true → Fit (so.given ++ g) → (k : ℕ) → k < length (so.given ++ g) → record_in file k ≡ nth (so.given ++ g) k
-    more_each t fit k h = elim (dec_lt k (length so.given)) [
-      | yes l ↦ so.each (go.agreed t) (fit_left so.given g fit) k l ∙ sym (nth_left so.given g k l)
-      | no l ↦
-          let d : length so.given ≡ run.done = so.count (go.agreed t) in
-          let q = k - run.done in
-          let i : run.done + q ≡ k = omega arith in
-          let j : q < c = omega (arith, length-append so.given g) in
-          let y : nth (so.given ++ g) (run.done + q) ≡ nth g q = rw d at (nth_right so.given g q) in
-          let e : record_in file (run.done + q) ≡ nth (so.given ++ g) (run.done + q)
-          = go.each t q j ∙ laid_at g w (omega arith) (fit_right so.given g fit) q (omega arith) ∙ sym y in
+-- c records more, as a stretch w of them is found
+says_more : (file w : List ℕ) (given g : List Record) (c : ℕ) (run r : Option ℕ) → length g ≡ c → c ≤ length w / 36
+    → Says file given run → Goes run c (record_in (stored_all 0 g w)) file r → Says file (given ++ g) r
+says_more file w given g c run None count room h go = tt
+says_more file w given g c None (Some n) count room h go = absurd go
+says_more file w given g c (Some d) (Some n) count room h go = (omega (arith, length-append given g, h.0, go.0), go.1, each)
+  where
+    each : Fit (given ++ g) → (k : ℕ) → k < length (given ++ g) → record_in file k ≡ nth (given ++ g) k
+    each fit k l = elim (dec_lt k (length given)) [
+      | yes q ↦ h.2 (fit_left given g fit) k q ∙ sym (nth_left given g k q)
+      | no q ↦
+          let j = k - d in
+          let i : d + j ≡ k = omega (arith, h.0) in
+          let b : j < c = omega (arith, length-append given g, h.0) in
+          let y : nth (given ++ g) (d + j) ≡ nth g j = rw h.0 at (nth_right given g j) in
+          let e : record_in file (d + j) ≡ nth (given ++ g) (d + j) = go.2 j b ∙ laid_at g w (omega arith) (fit_right given g fit) j (omega arith) ∙ sym y in
           rw i at e
     ]
 
-    so_on : (to : State) → Sound s to → read_from s o ≡ follow g (read_from s to) → So s start file to r
-    so_on to d e = record {
-      sound = d;
-      given = so.given ++ g;
-      rest = so.rest ∙ ap (follow so.given) e ∙ follow_follow so.given g (read_from s to);
-      within = go.within;
-      count = more_count;
-      each = more_each;
-    }
+-- the test of a run against the file's count
+pub run_is : (run : Option ℕ) (n : ℕ) → option_eq eqb run (Some n) ≡ true → run ≡ Some n
+run_is None n h = absurd (false≢true h)
+run_is (Some x) n h = ap Some (eqb-true x n h)
 
-    so_over : read_from s o ≡ records g → (x : Ordered) → Ended r file x → Orders s start file x
-    so_over e O.Same h = (
-      so.given ++ g,
-      so.rest ∙ ap (follow so.given) e,
-      λ fit. (sym h.1 ∙ sym (more_count h.0), more_each h.0 fit),
-    )
-    so_over e O.Other h = (so.given ++ g, so.rest ∙ ap (follow so.given) e)
-    so_over e (O.Refused r) h = absurd h
+module _ (s : List ℕ) (start : State) (file : List ℕ) (o : State) (run : Option ℕ) (so : So s start file o run) where
+  pub so_within : IfSome run (λ n. n ≤ length file / 36)
+  so_within = says_within file so.given run so.says
 
-  -- .. as a pass laid it
-  pub so_next : (w : List ℕ) (c : ℕ) → c ≤ length w / 36 → (to : State) (out : List ℕ) → Further s o w c to out → (r : Run) → Goes run c (record_in out) file r
+  -- as a pass laid the stretch
+  pub so_next : (w : List ℕ) (c : ℕ) → c ≤ length w / 36 → (to : State) (out : List ℕ) → Further s o w c to out → (r : Option ℕ) → Goes run c (record_in out) file r
       → So s start file to r
-  so_next w c room to out f r go = so_on f.given c w r f.count room (rw f.laid at go) to f.sound f.rest
+  so_next w c room to out f r go = record {
+    sound = f.sound;
+    given = so.given ++ f.given;
+    rest = so.rest ∙ ap (follow so.given) f.rest ∙ follow_follow so.given f.given (read_from s to);
+    says = says_more file w so.given f.given c run r f.count room so.says (rw f.laid at go);
+  }
 
   pub so_last : (w out : List ℕ) (c : ℕ) (g : List Record) → read_from s o ≡ records g → length g ≡ c → out ≡ stored_all 0 g w → c ≤ length w / 36
-      → (r : Run) → Goes run c (record_in out) file r → (x : Ordered) → Ended r file x → Orders s start file x
-  so_last w out c g e n laid room r go = so_over g c w r n room (rw laid at go) e
+      → (r : Option ℕ) → Goes run c (record_in out) file r → (same : Bool) → (same ≡ true → r ≡ Some (length file / 36)) → Orders s start file (Ok same)
+  so_last w out c g e n laid room r go true h =
+      let z : Says file (so.given ++ g) (Some (length file / 36)) = rw (h refl) at (says_more file w so.given g c run r n room so.says (rw laid at go)) in
+      (so.given ++ g, so.rest ∙ ap (follow so.given) e, λ fit. (sym z.0, z.2 fit))
+  so_last w out c g e n laid room r go false h = (so.given ++ g, so.rest ∙ ap (follow so.given) e)
 
   pub so_refused : (f : Refusal) → read_from s o ≡ refusal_of f → read_from s start ≡ refusal_of f
   so_refused f e = so.rest ∙ ap (follow so.given) e
-
--- WHAT A PASS ANSWERED
-
-module _ (s : List ℕ) (o : State) (n : ℕ) (w out : List ℕ) (x : Passed) (p : Passes s o n w out x) where
-  pub went_on : (to : State) → x ≡ P.On to → Further s o w n to out
-  went_on to h = rw h at p
-
-  pub went_over : (c : ℕ) → x ≡ P.Over c → (g : List Record) × (read_from s o ≡ records g) × (length g ≡ c) × (c ≤ n) × (out ≡ stored_all 0 g w)
-  went_over c h = rw h at p
-
-  pub went_wrong : (f : Refusal) (to : State) → x ≡ P.Refused f to → read_from s o ≡ refusal_of f
-  went_wrong f to h = (rw h at p).0

@@ -3,13 +3,14 @@ use Prim.Native.Nat.{ℕ, zero, suc, ◌*◌, ◌/◌, ◌%◌, ◌≤◌}
 use native.Mathlib.Nat.{le_of_suc-le-suc, not-suc-le-zero}
 use native.Mathlib.Omega.{arith}
 use mathlib.Core.Path.{◌≡◌, sym, ap, ◌∙◌}
-use mathlib.Core.Bool.{Bool, true, false, false≢true}
+use mathlib.Core.Bool.{Bool, true, false}
 use mathlib.Core.List.{List, [], ◌∷◌}
 use lib.ListN.{length, length-replicate, replicate}
 use lib.Seq.{ext_get_or}
 use borrow.Author.Tests.{eq-eqb, ne_eqb}
+use Rattle.std.specs.Prelude.{Result, Ok, Err, ⊤}
 use Rattle.refusal.specs.declared.Refusal.{Refusal}
-use Rattle.refusal.specs.Table.{refused, done, not_whole}
+use Rattle.refusal.specs.Table.{refused, done, not_whole, judgement}
 use Rattle.record.specs.declared.Record.{Record}
 use Rattle.record.specs.Range.{InRange}
 use Rattle.file.specs.File.{held}
@@ -18,14 +19,10 @@ use Rattle.grammar.specs.Standing.{Every}
 use Rattle.grammar.specs.Reading.{records, refusal_of, reading}
 use Rattle.grammar.proofs.Ranges.{in_range}
 use Rattle.reader.specs.declared.open.State.{State}
-use Rattle.reader.specs.declared.pass.Begun.{Begun}
-use Rattle.reader.specs.declared.pass.Begun.TheVariants as B
-use Rattle.reader.specs.Passed.{Sound, read_from, Begins}
+use Rattle.reader.specs.Passed.{Sound, read_from}
 use Rattle.verdict.specs.Verdict.{blank, verdict, checked}
 use Rattle.verdict.proofs.Bridge.{verdict_in_order}
-use Rattle.verdict.proofs.Read.{reading_rises}
-use Rattle.checker.specs.declared.order.Ordered.{Ordered}
-use Rattle.checker.specs.declared.order.Ordered.TheVariants as O
+use Rattle.verdict.proofs.Read.{reading_rises, refusal_low}
 use Rattle.checker.specs.Passing.{Fit, Reads, InOrder, Orders}
 use Rattle.checker.proofs.Following.{same_records}
 
@@ -41,47 +38,36 @@ every_nth [] h k l = absurd (not-suc-le-zero l)
 every_nth (r ∷ rs) h zero l = h.0
 every_nth (r ∷ rs) h (suc k) l = every_nth rs h.1 k (le_of_suc-le-suc l)
 
--- the refusal of the text
-pub text_refused : (s file : List ℕ) (r : Refusal) → reading s ≡ refusal_of r → r ≡ checked (reading s) file
-text_refused s file r e = sym (ap (λ o. checked o file) e)
-
-module _ (s : List ℕ) (x : Begun) (b : Begins s x) where
-  pub begun_refused : (r : Refusal) → x ≡ B.Refused r → reading s ≡ refusal_of r
-  begun_refused r h = rw h at b
-
-  pub begun_at : (st : State) → x ≡ B.At st → (reading s ≡ read_from s st) × Sound s st
-  begun_at st h = let z : Begins s (B.At st) = rw h at b in (z.0, z.3)
-
-module _ (s : List ℕ) (st : State) (from : reading s ≡ read_from s st) (sound : Sound s st) where
-  pub reads_of : (rs : List Record) → read_from s st ≡ records rs → Reads s st rs
-  reads_of rs e = record { sound = sound; gives = e; rises = reading_rises s rs (from ∙ e); fit = every_nth rs (in_range s rs (from ∙ e)) }
-
-  module _ (file : List ℕ) (x : Ordered) (h : Orders s st file x) where
-    pub order_refused : (r : Refusal) → x ≡ O.Refused r → reading s ≡ refusal_of r
-    order_refused r e = from ∙ rw e at h
-
-    pub order_same : x ≡ O.Same → (rs : List Record) × Reads s st rs × (true ≡ true → InOrder rs file)
-    order_same e = let z : Orders s st file O.Same = rw e at h in (z.0, reads_of z.0 z.1, λ _. z.2)
-
-    pub order_other : x ≡ O.Other → (rs : List Record) × Reads s st rs × (false ≡ true → InOrder rs file)
-    order_other e = let z : Orders s st file O.Other = rw e at h in (z.0, reads_of z.0 z.1, λ q. absurd (false≢true q))
-
-  -- the answer for the records is the answer for the reading
-  pub judged : (file : List ℕ) (r : Refusal) → ((rs : List Record) → read_from s st ≡ records rs → r ≡ checked (records rs) file)
-      → (rs : List Record) → Reads s st rs → r ≡ checked (reading s) file
-  judged file r h rs q = h rs q.gives ∙ sym (ap (λ o. checked o file) (from ∙ q.gives))
-
-  -- and its records are those that the file holds
-  pub judged_held : (file : List ℕ) (same : Bool) → ((rs : List Record) → read_from s st ≡ records rs → same ≡ true → rs ≡ held file)
-      → (rs : List Record) → Reads s st rs → same ≡ true → reading s ≡ records (held file)
-  judged_held file same h rs q e = from ∙ q.gives ∙ ap records (h rs q.gives e)
-
 -- 13, or the verdict
 pub not_whole_says : (rs : List Record) (file : List ℕ) → (length file % 36 ≡ 0 → ⊥) → checked (records rs) file ≡ refused not_whole (length file) 0
 not_whole_says rs file h = rw (ne_eqb (length file % 36) 0 h)
 
 pub whole_says : (rs : List Record) (file : List ℕ) → length file % 36 ≡ 0 → checked (records rs) file ≡ verdict rs (held file)
 whole_says rs file h = rw (eq-eqb (length file % 36) 0 h)
+
+-- the refusal of the text has a number
+pub text_refused : (s file : List ℕ) (r : Refusal) → reading s ≡ refusal_of r → Err r ≡ judgement (checked (reading s) file)
+text_refused s file r e = rw e (rw (ne_eqb r.number done (omega (arith, refusal_low s r e))))
+
+module _ (s : List ℕ) (st : State) (from : reading s ≡ read_from s st) (sound : Sound s st) where
+  pub reads_of : (rs : List Record) → read_from s st ≡ records rs → Reads s st rs
+  reads_of rs e = record { sound = sound; gives = e; rises = reading_rises s rs (from ∙ e); fit = every_nth rs (in_range s rs (from ∙ e)) }
+
+  -- what the first pass shows
+  pub some_order : (file : List ℕ) (same : Bool) → Orders s st file (Ok same) → (rs : List Record) × (read_from s st ≡ records rs)
+  some_order file true h = (h.0, h.1)
+  some_order file false h = h
+
+  module _ (file : List ℕ) (rs : List Record) (e : read_from s st ≡ records rs) where
+    -- the answer for the records is the answer for the reading
+    judged : {A : Type 0} (f : Refusal → A) → f (checked (records rs) file) ≡ f (checked (reading s) file)
+    judged f = sym (ap (λ o. f (checked o file)) (from ∙ e))
+
+    pub by_length : (length file % 36 ≡ 0 → ⊥) → Err (refused not_whole (length file) 0) ≡ judgement (checked (reading s) file)
+    by_length h = ap judgement (sym (not_whole_says rs file h)) ∙ judged judgement
+
+    pub by_verdict : length file % 36 ≡ 0 → (v : Result ⊤ Refusal) → v ≡ judgement (verdict rs (held file)) → v ≡ judgement (checked (reading s) file)
+    by_verdict h v q = q ∙ ap judgement (sym (whole_says rs file h)) ∙ judged judgement
 
 -- a file in the reading's own order
 module _ (s : List ℕ) (st : State) (file : List ℕ) (ps : List Record) (q : Reads s st ps) (io : InOrder ps file) (rs : List Record) (e : read_from s st ≡ records rs) where

@@ -8,8 +8,7 @@ use lib.ListN.{length}
 use borrow.Author.Tests.{lt-ltb}
 use Rattle.record.specs.declared.Record.{Record}
 use Rattle.record.specs.Range.{InRange}
-use Rattle.file.specs.declared.Found.{Found}
-use Rattle.file.specs.declared.Found.TheVariants.{At, Past}
+use Rattle.std.specs.Prelude.{Option, Some, None}
 use Rattle.file.specs.File.{record_at, stored, record_in}
 use Rattle.file.proofs.Laws.{stored_length, read_stored, read_other}
 use Rattle.reader.specs.Passed.{stored_all}
@@ -17,9 +16,9 @@ use Rattle.verdict.specs.Verdict.{blank}
 use Rattle.verdict.specs.Meaning.{nth}
 use Rattle.checker.specs.Passing.{Fit}
 
-what : Found → Record
-what (At r) = r
-what Past = blank
+what : Option Record → Record
+what (Some r) = r
+what None = blank
 
 found : (l : List ℕ) (i : ℕ) → i < length l / 36 → record_in l i ≡ what (record_at l i)
 unfolding record_at what

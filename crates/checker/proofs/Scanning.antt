@@ -1,5 +1,5 @@
 -- One turn of each loop over a window: the halves of a search, and what one record more shows in a scan.
-use Prim.Native.Nat.{ℕ, ◌+◌, ◌≤◌, ◌<◌}
+use Prim.Native.Nat.{ℕ, ◌+◌, ◌-◌, ◌≤◌, ◌<◌}
 use native.Mathlib.Nat.{not-suc-le-zero}
 use native.Mathlib.Decide.{dec_lt, ℕ_discrete}
 use native.Mathlib.Omega.{arith}
@@ -8,12 +8,14 @@ use mathlib.Core.Bool.{Bool, true, false, ◌||◌, true≢false}
 use mathlib.Core.Logic.{inr}
 use mathlib.Core.List.{List}
 use lib.Dec.{ltb}
-use lib.ListN.{length, get_or, set}
-use lib.Seq.{get_or-set_same, get_or-set_other}
+use lib.ListN.{length, get_or, set, take, length-take}
+use lib.Seq.{get_or-set_same, get_or-set_other, get_or-take}
 use borrow.Author.Tests.{le-ltb, ltb-false}
+use Rattle.std.specs.Prelude.{Option, Some, None, MatchOption}
+use Rattle.std.specs.List.{AllWithin, HoldsAt}
 use Rattle.record.specs.declared.Record.{Record}
 use Rattle.verdict.specs.Facts.{Good, Wrong}
-use Rattle.checker.specs.Windows.{Sorted, Lower, Finds, Inside, Scanned, Scans, AllClear, FirstClear, Windowed}
+use Rattle.checker.specs.Windows.{Sorted, Lower, Finds, Inside, Scanned, Scans, AllClear, FirstClear, FirstUnmet, Windowed}
 
 -- one more
 pub more : (P : ℕ → Type 0) (i : ℕ) → ((k : ℕ) → k < i → P k) → P i → (k : ℕ) → k < i + 1 → P k
@@ -26,49 +28,29 @@ more P i h e k l = elim (dec_lt k i) [
 pub same_at : {x y : Record} → x ≡ y → x.at ≡ y.at
 same_at e = ap (λ r. r.at) e
 
--- THE SEARCH: all before lo is below x, and all from hi on is x or more
-pub record Bracket (w : ℕ → Record) (c x lo hi : ℕ) : Type 0 where
-  pub lo_le : lo ≤ hi
-  pub hi_le : hi ≤ c
-  pub below : (k : ℕ) → k < lo → (w k).at < x
-  pub above : (k : ℕ) → hi ≤ k → k < c → x ≤ (w k).at
-
-pub bracket_start : (w : ℕ → Record) (c x : ℕ) → Bracket w c x 0 c
-bracket_start w c x = record { lo_le = omega arith; hi_le = omega arith; below = λ k h. absurd (not-suc-le-zero h); above = λ k p q. absurd (omega arith) }
-
-module _ {w : ℕ → Record} {c x lo hi : ℕ} (s : Sorted w c) (b : Bracket w c x lo hi) (m : ℕ) (lm : lo ≤ m) (mh : m < hi) where
-  pub bracket_up : (w m).at < x → Bracket w c x (m + 1) hi
-  bracket_up e = record {
-    lo_le = omega arith;
-    hi_le = b.hi_le;
-    below = more (λ k. (w k).at < x) m (λ k h. omega (arith, s k m h (omega (arith, b.hi_le)))) e;
-    above = b.above;
-  }
-
-  pub bracket_down : x ≤ (w m).at → Bracket w c x lo m
-  bracket_down e = record {
-    lo_le = lm;
-    hi_le = omega (arith, b.hi_le);
-    below = b.below;
-    above = λ k p q. elim (dec_lt m k) [
-      | yes h ↦ omega (arith, s m k h q)
-      | no h ↦ let z : k ≡ m = omega arith in rw z e
-    ];
-  }
-
--- x is nowhere in the window, if it is not where its `at` would stand
-pub nowhere : (w : ℕ → Record) (c p : ℕ) (x : Record) → Sorted w c → Lower w c x.at p → (p < c → x ≡ w p → ⊥) → Finds w c x c
-nowhere w c p x s l h = record {
-  within = omega arith;
-  here = λ z. absurd (omega arith);
-  nowhere = λ _ k kc e. elim (dec_lt k p) [
-    | yes q ↦ omega (arith, l.below k q, same_at e)
-    | no q ↦ elim (dec_lt p k) [
-      | yes t ↦ omega (arith, l.above p (omega arith) (omega arith), s p k t kc, same_at e)
-      | no t ↦ let z : k ≡ p = omega arith in h (omega arith) (rw z at e)
-    ]
+-- THE SEARCH: what is known of one index is known of all, since `at` rises
+pub lower_at : {w : ℕ → Record} {c x : ℕ} → Sorted w c → (p : ℕ) → p ≤ c → (0 < p → (w (p - 1)).at < x) → (p < c → x ≤ (w p).at) → Lower w c x p
+lower_at {w} {c} {x} s p h before after = record {
+  within = h;
+  below = λ k l. elim (dec_lt k (p - 1)) [
+    | yes q ↦ omega (arith, s k (p - 1) q (omega arith), before (omega arith))
+    | no q ↦ let z : k ≡ p - 1 = omega arith in rw z (before (omega arith))
+  ];
+  above = λ k q l. elim (dec_lt p k) [
+    | yes t ↦ omega (arith, s p k t l, after (omega arith))
+    | no t ↦ let z : k ≡ p = omega arith in rw z (after (omega arith))
   ];
 }
+
+-- x is nowhere in the window, if it is not where its `at` would stand
+pub nowhere : (w : ℕ → Record) (c p : ℕ) (x : Record) → Sorted w c → Lower w c x.at p → (p < c → x ≡ w p → ⊥) → Finds w c x None
+nowhere w c p x s l h k kc e = elim (dec_lt k p) [
+  | yes q ↦ omega (arith, l.below k q, same_at e)
+  | no q ↦ elim (dec_lt p k) [
+    | yes t ↦ omega (arith, l.above p (omega arith) (omega arith), s p k t kc, same_at e)
+    | no t ↦ let z : k ≡ p = omega arith in h (omega arith) (rw z at e)
+  ]
+]
 
 -- THE SCAN
 pub scanned_start : {f w : ℕ → Record} {lo hi c : ℕ} {marks : List ℕ} → AllClear marks c → Scanned f w lo hi c marks 0
@@ -118,19 +100,22 @@ module _ {f w : ℕ → Record} {lo hi c : ℕ} {marks : List ℕ} {i : ℕ} (s 
   scanned_again {p} pc e z = let m = s.marked p pc z in inr (m.0, m.1, e ∙ m.2)
 
 -- a scan, and the first mark that it left clear
-pub windowed : {f w : ℕ → Record} {lo hi c limit i p : ℕ} {marks : List ℕ} → Scans f w lo hi c limit marks i → FirstClear marks c p → Windowed f w lo hi c limit i p
-windowed sc cl = record {
-  within = sc.within;
-  good = sc.scanned.good;
-  stop = sc.stop;
-  few = cl.within;
-  met = λ k l. sc.scanned.marked k (omega (arith, cl.within)) (cl.before k l);
-  unmet = λ h. sc.scanned.clear _ h (cl.here h);
-}
+pub first_unmet : {f w : ℕ → Record} {lo hi c i : ℕ} {marks : List ℕ} → Scanned f w lo hi c marks i → (p : Option ℕ) → FirstClear marks c p → FirstUnmet f w c i p
+first_unmet s (Some p) h = (h.0, λ k l. s.marked k (omega (arith, h.0)) (h.1 k l), s.clear p h.0 h.2)
+first_unmet s None h = λ k l. s.marked k l (h k l)
 
--- one mark more is clear
-pub cleared : (marks : List ℕ) (k : ℕ) → k < length marks → AllClear marks k → AllClear (set marks k 0) (k + 1)
-cleared marks k h p = more (λ j. get_or (set marks k 0) j 0 ≡ 0) k (λ j q. get_or-set_other marks k j 0 0 (omega arith) ∙ p j q) (get_or-set_same marks k 0 0 h)
+pub windowed : {f w : ℕ → Record} {lo hi c limit i : ℕ} {p : Option ℕ} {marks : List ℕ} → Scans f w lo hi c limit marks i → FirstClear marks c p → Windowed f w lo hi c limit i p
+windowed {p = p} sc cl = record { within = sc.within; good = sc.scanned.good; stop = sc.stop; unmet = first_unmet sc.scanned p cl }
+
+-- the first that is 0 of a part of the marks
+pub first_clear : (marks : List ℕ) (c : ℕ) → c ≤ length marks → (r : Option ℕ)
+    → MatchOption r (AllWithin (λ x. x ≡ 0 → ⊥) (take c marks) 0 (length (take c marks)))
+    (λ i. (i < length (take c marks)) × HoldsAt (λ x. x ≡ 0) (take c marks) i × AllWithin (λ x. x ≡ 0 → ⊥) (take c marks) 0 i)
+    → FirstClear marks c r
+first_clear marks c h None m = λ k l e. m k 0 (omega arith) (omega (arith, length-take c marks)) (get_or-take c marks k 0 l ∙ e)
+first_clear marks c h (Some i) m =
+    let l : i < c = omega (arith, length-take c marks, m.0) in
+    (l, λ k q e. m.2 k 0 (omega arith) q (get_or-take c marks k 0 (omega arith) ∙ e), sym (get_or-take c marks i 0 l) ∙ m.1 0)
 
 -- the test of both ends of lo .. hi
 pub outside : (x lo hi : ℕ) → (ltb x lo || ltb hi x) ≡ true → lo ≤ x → x ≤ hi → ⊥

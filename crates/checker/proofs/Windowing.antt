@@ -3,10 +3,11 @@ use Prim.Native.Nat.{ℕ, ◌+◌, ◌-◌, ◌/◌, ◌≤◌, ◌<◌}
 use native.Mathlib.Decide.{dec_lt}
 use native.Mathlib.Omega.{arith}
 use mathlib.Core.Path.{◌≡◌, sym, ap, ◌∙◌}
-use mathlib.Core.Bool.{true}
 use mathlib.Core.List.{List, [], ◌++◌, append-nil}
 use lib.ListN.{length, drop, length-append, length-drop, get_or-append}
 use lib.Seq.{get_or-drop, drop-drop, drop_at}
+use Rattle.std.specs.Prelude.{None, Result, ⊤}
+use Rattle.refusal.specs.Table.{judgement}
 use Rattle.refusal.specs.declared.Refusal.{Refusal}
 use Rattle.record.specs.declared.Record.{Record}
 use Rattle.file.specs.File.{held, record_in}
@@ -34,7 +35,7 @@ pub record Under (s : List ℕ) (start : State) (file : List ℕ) (o : State) (s
   pub covered : Covered (length rs) (length file / 36) (nth rs) (record_in file) a seen
 
 pub under_start : (s : List ℕ) (start : State) (file : List ℕ) (seen : Seen) (rs : List Record) → Reads s start rs
-    → seen.low ≡ 0 → seen.limit ≡ length file / 36 → seen.full ≡ true → Under s start file start seen
+    → seen.low ≡ 0 → seen.limit ≡ length file / 36 → seen.lack ≡ None → Under s start file start seen
 under_start s start file seen rs r l e t = record {
   rs = rs;
   reads = r;
@@ -163,11 +164,11 @@ module _ (s : List ℕ) (start : State) (file : List ℕ) (o : State) (seen : Se
       rw whole at (h (length un.rs) (nth un.rs) un.a un.covered
       (rw laid (fills s start file o seen un g [] all w c count room 4294967295 last_of none_next)))
 
-  pub over_verdict : (t : Seen) → Covers file out seen c 4294967295 t → (v : Refusal)
-      → ((qs : List Record) → Covered (length qs) (length file / 36) (nth qs) (record_in file) (length qs) t → v ≡ verdict qs (held file))
-      → (qs : List Record) → read_from s start ≡ records qs → v ≡ verdict qs (held file)
+  pub over_verdict : (t : Seen) → Covers file out seen c 4294967295 t → (v : Result ⊤ Refusal)
+      → ((qs : List Record) → Covered (length qs) (length file / 36) (nth qs) (record_in file) (length qs) t → v ≡ judgement (verdict qs (held file)))
+      → (qs : List Record) → read_from s start ≡ records qs → v ≡ judgement (verdict qs (held file))
   over_verdict t h v judged qs e =
-      judged un.rs (over_covered t h) ∙ ap (λ l. verdict l (held file)) (same_records un.rs qs (sym un.reads.gives ∙ e))
+      judged un.rs (over_covered t h) ∙ ap (λ l. judgement (verdict l (held file))) (same_records un.rs qs (sym un.reads.gives ∙ e))
 
 -- a reading that gives records is not refused on the way
 pub never_refused : {s : List ℕ} {start : State} {file : List ℕ} {o : State} {seen : Seen} → Under s start file o seen → (f : Refusal) → read_from s o ≡ refusal_of f → ⊥

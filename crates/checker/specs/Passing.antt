@@ -1,15 +1,13 @@
 -- Inner machinery, which nobody has to believe: what the passes over a text ensure. Here s is the text, and o a state of the reader
 -- between two turns.
-use Rattle.std.specs.Prelude.{ℕ, ◌+◌, ◌/◌, ◌≤◌, ◌<◌, ◌≡◌, true, List, length}
+use Rattle.std.specs.Prelude.{ℕ, ◌+◌, ◌/◌, ◌≤◌, ◌<◌, ◌≡◌, Bool, true, false, List, length, Option, Some, None, Result, Ok, Err, ⊤}
+use Rattle.refusal.specs.declared.Refusal.{Refusal}
 use Rattle.record.specs.declared.Record.{Record}
 use Rattle.record.specs.Range.{InRange}
 use Rattle.grammar.specs.Reading.{records, refusal_of}
 use Rattle.reader.specs.declared.open.State.{State}
 use Rattle.reader.specs.Passed.{Sound, read_from}
 use Rattle.verdict.specs.Meaning.{nth, Rises}
-use Rattle.checker.specs.declared.order.Run.{Run}
-use Rattle.checker.specs.declared.order.Ordered.{Ordered}
-use Rattle.checker.specs.declared.order.Ordered.TheVariants as O
 use Rattle.file.specs.File.{record_in}
 
 -- each record fits its bytes
@@ -28,23 +26,21 @@ abbrev pub InOrder : List Record → List ℕ → Type 0
 InOrder rs file = Fit rs → (length file / 36 ≡ length rs) × ((k : ℕ) → k < length rs → record_in file k ≡ nth rs k)
 
 -- whether the file holds the records from the state on in their order; where it does not, only that there are such
-abbrev pub Orders : List ℕ → State → List ℕ → Ordered → Type 0
-Orders s o file O.Same = (rs : List Record) × (read_from s o ≡ records rs) × InOrder rs file
-Orders s o file O.Other = (rs : List Record) × (read_from s o ≡ records rs)
-Orders s o file (O.Refused r) = read_from s o ≡ refusal_of r
+abbrev pub Orders : List ℕ → State → List ℕ → Result Bool Refusal → Type 0
+Orders s o file (Ok true) = (rs : List Record) × (read_from s o ≡ records rs) × InOrder rs file
+Orders s o file (Ok false) = (rs : List Record) × (read_from s o ≡ records rs)
+Orders s o file (Err r) = read_from s o ≡ refusal_of r
 
--- a run goes on over c records w: while it agrees the file has them in its place
-pub record Goes (run : Run) (c : ℕ) (w : ℕ → Record) (file : List ℕ) (r : Run) : Type 0 where
-  pub within : r.done ≤ length file / 36
-  pub agreed : r.agrees ≡ true → run.agrees ≡ true
-  pub done : r.agrees ≡ true → r.done ≡ run.done + c
-  pub each : r.agrees ≡ true → (k : ℕ) → k < c → record_in file (run.done + k) ≡ w k
+-- a run goes on over c records w: the file has them in its place
+abbrev pub Goes : Option ℕ → ℕ → (ℕ → Record) → List ℕ → Option ℕ → Type 0
+Goes run c w file None = Unit {0}
+Goes None c w file (Some n) = ⊥
+Goes (Some done) c w file (Some n) = (n ≡ done + c) × (n ≤ length file / 36) × ((k : ℕ) → k < c → record_in file (done + k) ≡ w k)
 
--- what a run shows at the end of the reading
-abbrev pub Ended : Run → List ℕ → Ordered → Type 0
-Ended run file O.Same = (run.agrees ≡ true) × (run.done ≡ length file / 36)
-Ended run file O.Other = Unit {0}
-Ended run file (O.Refused r) = ⊥
+-- what comparing says of the file, whose order is not asked for
+abbrev pub accepted : Result Bool Refusal → Result ⊤ Refusal
+accepted (Ok same) = Ok tt
+accepted (Err r) = Err r
 
 -- how many records a stretch of the first pass holds, and its bytes; and how many a window
 abbrev pub stretch : ℕ

@@ -1,6 +1,6 @@
 -- Inner machinery, which nobody has to believe: what the inner functions of the checker ensure. Here f and w give the records of the
 -- file and of a window by their index.
-use Rattle.std.specs.Prelude.{ℕ, ◌≤◌, ◌<◌, ◌≡◌, List, get_or}
+use Rattle.std.specs.Prelude.{ℕ, ◌≤◌, ◌<◌, ◌≡◌, List, get_or, Option, Some, None}
 use Rattle.record.specs.declared.Record.{Record}
 use Rattle.verdict.specs.Facts.{Met, Unmet, Good, Wrong}
 
@@ -14,11 +14,10 @@ pub record Lower (w : ℕ → Record) (c x p : ℕ) : Type 0 where
   pub below : (k : ℕ) → k < p → (w k).at < x
   pub above : (k : ℕ) → p ≤ k → k < c → x ≤ (w k).at
 
--- p is the index of x among the first c records, or c where it is none of them
-pub record Finds (w : ℕ → Record) (c : ℕ) (x : Record) (p : ℕ) : Type 0 where
-  pub within : p ≤ c
-  pub here : p < c → x ≡ w p
-  pub nowhere : p ≡ c → Unmet c w x
+-- the index of x among the first c records, where it is one of them
+abbrev pub Finds : (ℕ → Record) → ℕ → Record → Option ℕ → Type 0
+Finds w c x (Some p) = (p < c) × (x ≡ w p)
+Finds w c x None = Unmet c w x
 
 -- the first c records have their `at` in lo .. hi
 abbrev pub Inside : (ℕ → Record) → ℕ → ℕ → ℕ → Type 0
@@ -40,18 +39,20 @@ pub record Scans (f w : ℕ → Record) (lo hi c limit : ℕ) (marks : List ℕ)
 abbrev pub AllClear : List ℕ → ℕ → Type 0
 AllClear marks c = (k : ℕ) → k < c → get_or marks k 0 ≡ 0
 
--- p is the first of the first c marks that is 0, or c
-pub record FirstClear (marks : List ℕ) (c p : ℕ) : Type 0 where
-  pub within : p ≤ c
-  pub before : (k : ℕ) → k < p → get_or marks k 0 ≡ 0 → ⊥
-  pub here : p < c → get_or marks p 0 ≡ 0
+-- the first of the first c marks that is 0
+abbrev pub FirstClear : List ℕ → ℕ → Option ℕ → Type 0
+FirstClear marks c (Some p) = (p < c) × ((k : ℕ) → k < p → get_or marks k 0 ≡ 0 → ⊥) × (get_or marks p 0 ≡ 0)
+FirstClear marks c None = (k : ℕ) → k < c → get_or marks k 0 ≡ 0 → ⊥
+
+-- of the first c records w the first that the first n records of the file have not
+abbrev pub FirstUnmet : (ℕ → Record) → (ℕ → Record) → ℕ → ℕ → Option ℕ → Type 0
+FirstUnmet f w c n (Some p) = (p < c) × ((k : ℕ) → k < p → Met n f (w k)) × Unmet n f (w p)
+FirstUnmet f w c n None = (k : ℕ) → k < c → Met n f (w k)
 
 -- what one window of c records in lo .. hi shows of the first `limit` records of the file: those before i in lo .. hi are good, and record i
--- is wrong if it is before the limit; the first p of the window are met before i, and the next is not
-pub record Windowed (f w : ℕ → Record) (lo hi c limit i p : ℕ) : Type 0 where
+-- is wrong if it is before the limit; and p is the first of the window that is not met before i
+pub record Windowed (f w : ℕ → Record) (lo hi c limit i : ℕ) (p : Option ℕ) : Type 0 where
   pub within : i ≤ limit
   pub good : (j : ℕ) → j < i → lo ≤ (f j).at → (f j).at ≤ hi → Good c w f j
   pub stop : i < limit → (lo ≤ (f i).at) × ((f i).at ≤ hi) × Wrong c w f i
-  pub few : p ≤ c
-  pub met : (k : ℕ) → k < p → Met i f (w k)
-  pub unmet : p < c → Unmet i f (w p)
+  pub unmet : FirstUnmet f w c i p

@@ -2,6 +2,7 @@
 ghost use Rattle.std.specs.Prelude.{◌≡◌, List, ℕ, ◌+◌, ◌/◌, ◌≤◌, ◌<◌, length};
 ghost use Rattle.record.specs.declared.Record.{Record};
 ghost use Rattle.file.specs.File.{held, record_in};
+ghost use Rattle.refusal.specs.Table.{judgement};
 ghost use Rattle.grammar.specs.Reading.{records};
 ghost use Rattle.reader.specs.Passed.{read_from};
 ghost use Rattle.verdict.specs.Verdict.{verdict};
@@ -18,13 +19,12 @@ use record::Record;
 use refusal::Refusal;
 
 // The records of the reading below `low` have been in a window. `limit` is the index of the first record of the file that is known to be
-// wrong, or the file's count; `full` says whether it had all those of the windows, and if not, `lack` is the `at` of the first it had not.
+// wrong, or the file's count; `lack` is the `at` of the first record of the windows that it has not.
 #[derive(Clone, Copy)]
 pub struct Seen {
     pub low: usize,
     pub limit: usize,
-    pub full: bool,
-    pub lack: usize,
+    pub lack: Option<usize>,
 }
 
 // What is seen after a window of c records up to `high`.
@@ -34,40 +34,32 @@ fn seen_after(seen: Seen, file: &[u8], w: &[u8], c: usize, high: usize, marks: &
     ensures covers { (m : ℕ) (r : ℕ → Record) (a : ℕ) → Covered m (length file.now / 36) r (record_in file.now) a seen → Fills m r (record_in w.now) a c high → Covered m (length file.now / 36) r (record_in file.now) (a + c) result }
 {
     let step = window(file, seen.limit, seen.low, high, w, c, marks);
-    let low = high + 1;
-    let limit = step.limit;
-    let met = step.met;
-    if seen.full {
-        if met < c {
-            let lack = at_of(w, met);
-            return Seen {
-                low,
-                limit,
-                full: false,
-                lack,
-            };
-        }
-    }
+    let lack = match seen.lack {
+        Some(at) => Some(at),
+        None => match step.unmet {
+            Some(k) => Some(at_of(w, k)),
+            None => None,
+        },
+    };
     Seen {
-        low,
-        limit,
-        full: seen.full,
-        lack: seen.lack,
+        low: high + 1,
+        limit: step.limit,
+        lack,
     }
 }
 
 // The verdict, where every record of the reading has been in a window.
-fn verdict_of(seen: Seen, file: &[u8]) -> Refusal
+fn verdict_of(seen: Seen, file: &[u8]) -> Result<(), Refusal>
     requires { 4294967296 ≤ seen.low }
-    ensures { (rs : List Record) → Covered (length rs) (length file.now / 36) (nth rs) (record_in file.now) (length rs) seen → result ≡ verdict rs (held file.now) }
+    ensures { (rs : List Record) → Covered (length rs) (length file.now / 36) (nth rs) (record_in file.now) (length rs) seen → result ≡ judgement (verdict rs (held file.now)) }
 {
     if seen.limit < file.len() / Record::SIZE {
-        return Refusal::wrong_record(seen.limit);
+        return Err(Refusal::wrong_record(seen.limit));
     }
-    if !seen.full {
-        return Refusal::lacking(seen.lack);
+    match seen.lack {
+        Some(at) => Err(Refusal::lacking(at)),
+        None => Ok(()),
     }
-    Refusal::done(0)
 }
 
 // How many records a window holds.
@@ -79,29 +71,33 @@ const WIDTH_BYTES: usize = 589824;
 const LAST: usize = 4294967295;
 
 // The verdict on a file by windows: `w` is filled with a stretch of the reading at a time, and the file is scanned once for each.
-pub(crate) fn by_windows(text: &[u8], start: State, file: &[u8]) -> Refusal
+pub(crate) fn by_windows(text: &[u8], start: State, file: &[u8]) -> Result<(), Refusal>
     requires { (rs : List Record) × Reads text.now start rs }
-    ensures { (rs : List Record) → read_from text.now start ≡ records rs → result ≡ verdict rs (held file.now) }
+    ensures { (rs : List Record) → read_from text.now start ≡ records rs → result ≡ judgement (verdict rs (held file.now)) }
 {
     let mut w = [0u8; WIDTH_BYTES];
     let mut marks = [0u8; WIDTH];
     windows(text, start, file, &mut w, &mut marks)
 }
 
-fn windows(text: &[u8], start: State, file: &[u8], w: &mut [u8], marks: &mut [u8]) -> Refusal
+fn windows(
+    text: &[u8],
+    start: State,
+    file: &[u8],
+    w: &mut [u8],
+    marks: &mut [u8],
+) -> Result<(), Refusal>
     requires { (width ≤ length w.old / 36) × (width ≤ length marks.old) × ((rs : List Record) × Reads text.now start rs) }
-    ensures { (rs : List Record) → read_from text.now start ≡ records rs → result ≡ verdict rs (held file.now) }
+    ensures { (rs : List Record) → read_from text.now start ≡ records rs → result ≡ judgement (verdict rs (held file.now)) }
 {
     let mut st = start;
     let mut seen = Seen {
         low: 0,
         limit: file.len() / Record::SIZE,
-        full: true,
-        lack: 0,
+        lack: None,
     };
     loop {
-        match pass(text, st, w, WIDTH) {
-            Passed::Refused(refusal, _) => break refusal,
+        match pass(text, st, w, WIDTH)? {
             Passed::Over(c) => {
                 break verdict_of(seen_after(seen, file, w, c, LAST, marks), file);
             }

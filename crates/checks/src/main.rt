@@ -6,182 +6,97 @@
 //                    n, held, step, odd, put
 #![tactic(auto)]
 
-ghost use Rattle.std.specs.Prelude.{◌≡◌, ◌<◌, ◌≤◌, length};
+ghost use Rattle.std.specs.Prelude.{◌<◌};
 
 use record::Record;
-use refusal::Refusal;
-use vectors::{hex, plain, say};
+use std::alloc::{AllocError, Global};
+use std::io;
+use vectors::say::Answer;
+use vectors::{hex, plain};
 
-fn main() {
-    let mut input = vectors::input();
-    let n = io::read_full(0, &mut input);
-    lines(&input[..n]);
+fn main(rt: HostRuntime) -> io::Result<()> {
+    vectors::for_each_line(&rt, |letter, fields| answer(&rt, letter, fields))
 }
 
-fn lines(input: &[u8]) {
-    let mut at = 0;
-    while at < input.len() {
-        let stop = vectors::next_of(b'\n', input, at);
-        line(&input[at..stop]);
-        at = stop + 1;
-    }
-}
-
-fn line(part: &[u8]) {
-    if part.len() == 0 {
-        return;
-    }
-    let letter = part[0];
+fn answer(rt: &(impl Print + AllocGlobal), letter: u8, fields: &[u8]) -> io::Result<()> {
     match letter {
-        b'c' => given(&part[1..]),
-        b'm' => made(&part[1..]),
-        _ => say::text(b"?"),
-    }
-    say::newline();
-}
-
-fn answer(a: Refusal) {
-    say::number(a.number as u64);
-    say::number(a.place as u64);
-    say::number(a.line as u64);
-}
-
-fn given(fields: &[u8]) {
-    let mut text = [0u8; 4096];
-    let mut file = [0u8; 4096];
-    let stop = vectors::next_of(b'|', fields, 0);
-    if stop < fields.len() {
-        let n = plain::bytes(&fields[0..stop], &mut text);
-        let next = stop + 1;
-        let m = hex::bytes(&fields[next..], &mut file);
-        answer(checker::check(&text[0..n], &file[0..m]));
+        b'c' => given(rt, fields),
+        b'm' => made(rt, fields),
+        _ => print!(rt; "?"),
     }
 }
 
-fn made(digits: &[u8]) {
-    let mut numbers = [0u8; 15];
-    hex::bytes(digits, &mut numbers);
-    long(
-        three(&numbers, 0),
-        three(&numbers, 3),
-        three(&numbers, 6),
-        three(&numbers, 9),
-        three(&numbers, 12),
-    );
+fn given(rt: &(impl Print + AllocGlobal), fields: &[u8]) -> io::Result<()> {
+    let Some((text, file)) = vectors::cut(b'|', fields) else {
+        return Ok(());
+    };
+    let text = plain::decoded(rt.alloc(), text, 4096)?;
+    let file = hex::decoded(rt.alloc(), file, 4096)?;
+    checked(rt, &text, &file)
 }
 
-fn three(numbers: &[u8], place: usize) -> usize
-    ensures { result < 16777216 }
-{
-    little::number(numbers, place, 3) as usize
+fn checked(rt: &impl Print, text: &[u8], file: &[u8]) -> io::Result<()> {
+    print!(rt; "{} ", Answer(checker::check(text, file).map(|()| 0)))
 }
+
+fn made(rt: &(impl Print + AllocGlobal), digits: &[u8]) -> io::Result<()> {
+    let long = Long::of(&hex::array::<15>(digits));
+    if STATEMENTS < long.n || RECORDS < long.held {
+        return Ok(());
+    }
+    let text = long.text(rt.alloc())?;
+    let file = long.file(rt.alloc())?;
+    checked(rt, &text, &file)
+}
+
+// The most statements of a long text, and the most records of its file.
+const STATEMENTS: usize = 60000;
+
+const RECORDS: usize = 60001;
 
 // The bytes of one statement of the long text.
 const STATEMENT: usize = 12;
 
-fn long(n: usize, held: usize, step: usize, odd: usize, put: usize)
-    requires { (n < 16777216) × (held < 16777216) × (step < 16777216) × (put < 16777216) }
-{
-    let mut text = text_room();
-    let mut file = file_room();
-    filled(n, held, step, odd, put, &mut text, &mut file);
-}
-
-// Room for the longest text and the longest file.
-fn text_room() -> [u8; 720011]
-    ensures { 720011 ≡ length result }
-{
-    [0; 720011]
-}
-
-fn file_room() -> [u8; 2160036]
-    ensures { 2160036 ≡ length result }
-{
-    [0; 2160036]
-}
-
-fn filled(
+// A long text and its file, by their numbers.
+#[derive(Clone, Copy)]
+struct Long {
     n: usize,
     held: usize,
     step: usize,
     odd: usize,
     put: usize,
-    text: &mut [u8],
-    file: &mut [u8],
-)
-    requires { (n < 16777216) × (held < 16777216) × (step < 16777216) × (put < 16777216) }
-{
-    let length = statements(n, text);
-    records(n, held, step, odd, put, file);
-    answer_of(text, length, file, Record::SIZE * held);
+
+    ghost small: { (n < 16777216) × (held < 16777216) × (step < 16777216) × (put < 16777216) },
 }
 
-// Writes the records of the long text's file.
-fn records(n: usize, held: usize, step: usize, odd: usize, put: usize, file: &mut [u8])
-    requires { (n < 16777216) × (held < 16777216) × (step < 16777216) × (put < 16777216) }
-{
-    let mut i = 0;
-    let mut k = 0;
-    while i < held {
-        let number = one_of(i == odd, put, k);
-        file::put(Record::version(STATEMENT * number, 5000000), file, i);
-        k = stepped(k, step, n);
-        i += 1;
-    }
-}
-
-fn one_of(first: bool, one: usize, other: usize) -> usize
-    requires { (one < 16777216) × (other < 16777216) }
-    ensures { result < 16777216 }
-{
-    if first { one } else { other }
-}
-
-// The number so many steps on, in a circle of n.
-fn stepped(k: usize, step: usize, n: usize) -> usize
-    requires { (k < 16777216) × (step < 16777216) × (n < 16777216) }
-    ensures { result < 16777216 }
-{
-    let next = k + step;
-    if next < n {
-        return next;
-    }
-    (next - n) % 16777216
-}
-
-fn answer_of(text: &[u8], n: usize, file: &[u8], m: usize) {
-    if n <= text.len() {
-        if m <= file.len() {
-            answer(checker::check(&text[0..n], &file[0..m]));
+impl Long {
+    fn of(numbers: &[u8]) -> Self {
+        Self {
+            n: hex::three(numbers, 0),
+            held: hex::three(numbers, 3),
+            step: hex::three(numbers, 6),
+            odd: hex::three(numbers, 9),
+            put: hex::three(numbers, 12),
         }
     }
-}
 
-// Writes n statements and the end of the library to the front of the text: how many bytes these are.
-fn statements(n: usize, text: &mut [u8]) -> usize
-    requires { n < 16777216 }
-{
-    let mut i = 0;
-    while i < n {
-        word(b"VERSION 5 ;\n", text, STATEMENT * i);
-        i += 1;
+    fn text(self, alloc: Global) -> Result<Vec<u8>, AllocError> {
+        let mut text = Vec::new(alloc);
+        for _ in 0..self.n {
+            text.extend_from_slice(b"VERSION 5 ;\n")?;
+        }
+        text.extend_from_slice(b"END LIBRARY")?;
+        Ok(text)
     }
-    word(b"END LIBRARY", text, STATEMENT * n);
-    STATEMENT * n + 11
-}
 
-fn word(bytes: &[u8], text: &mut [u8], place: usize)
-    requires { (place ≤ 4294967296) × (length bytes.now ≤ 12) }
-{
-    let mut i = 0;
-    while i < bytes.len() {
-        lay(text, place + i, bytes[i]);
-        i += 1;
-    }
-}
-
-fn lay(text: &mut [u8], place: usize, byte: u8) {
-    if place < text.len() {
-        text[place] = byte;
+    fn file(self, alloc: Global) -> Result<Vec<u8>, AllocError> {
+        let mut file = vec![in alloc; 0; Record::SIZE * self.held]?;
+        let mut k = 0;
+        for i in 0..self.held {
+            let number = if i == self.odd { self.put } else { k };
+            file::put(Record::version(STATEMENT * number, 5000000), &mut file, i);
+            k = vectors::stepped(k, self.step, self.n);
+        }
+        Ok(file)
     }
 }

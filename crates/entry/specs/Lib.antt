@@ -1,3 +1,2 @@
 pub mod Entries
 pub mod Order
-pub mod Common

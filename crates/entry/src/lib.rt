@@ -7,7 +7,7 @@ ghost use Rattle.entry.specs.Entries.{encoded, entry_in, has_room, stored};
 pub mod order;
 
 // The owner, the span of the name and the `at` of a SITE block, MACRO or PIN.
-#[derive(Clone, Copy)]
+#[derive(Clone, Copy, PartialEq, Eq)]
 pub struct Entry {
     pub owner: usize,
     pub name: usize,
@@ -41,6 +41,7 @@ pub fn bytes(e: Entry) -> [u8; 16]
 }
 
 // Writes the entry at the position, and says whether the file had room there.
+// What it shares with `file::put` is `rowfile::put`; a trait of rows would be longer than these two calls.
 pub fn put(e: Entry, file: &mut [u8], position: usize) -> bool
     ensures value { result ≡ has_room file.old position }
     ensures file_after { file.new ≡ stored e position file.old }
@@ -49,14 +50,13 @@ pub fn put(e: Entry, file: &mut [u8], position: usize) -> bool
 }
 
 // The entry at the position of the file.
+#[tactic(auto, unfolding(crate::specs::Entries::decoded))]
 pub fn read(file: &[u8], position: usize) -> Entry
     requires { position < length file.now / 16 }
     ensures of { result ≡ entry_in file.now position }
     ensures small { (result.owner < 4294967296) × (result.name < 4294967296) × (result.len < 4294967296) × (result.at < 4294967296) }
 {
-    let base = Entry::SIZE * position;
-    let stop = base + Entry::SIZE;
-    let row = &file[base..stop];
+    let row = rowfile::row(file, Entry::SIZE, position);
     Entry {
         owner: little::word32(row, Entry::OWNER),
         name: little::word32(row, Entry::NAME),

@@ -14,7 +14,7 @@ use Rattle.record.specs.Bytes.{encoded, decoded}
 use Rattle.record.specs.Range.{InRange}
 use Rattle.record.proofs.Laws.{encoded_length, read_back}
 use Rattle.record.proofs.Laws.{whole as whole_record}
-use Rattle.file.specs.declared.Found.TheVariants.{At}
+use Rattle.std.specs.Prelude.{Some}
 use Rattle.file.specs.File.{count, whole, front, held, encoded_all, bytes_at, record_in, record_at}
 
 pub held_length : (file : List ℕ) → length (held file) ≡ count file
@@ -24,7 +24,7 @@ pub front_at : (n : ℕ) (file : List ℕ) (d : Record) (i : ℕ) → i < n → 
 front_at n file d i h = rows.front_at 36 decoded n file d i h
 
 -- the record at an index is the one that is held there
-pub held_at : (file : List ℕ) (d : Record) (i : ℕ) → i < count file → record_at file i ≡ At (get_or (held file) i d)
+pub held_at : (file : List ℕ) (d : Record) (i : ℕ) → i < count file → record_at file i ≡ Some (get_or (held file) i d)
 unfolding record_at
 held_at file d i h = rw (lt-ltb i (count file) h, rows.held_at 36 decoded file d i h)
 

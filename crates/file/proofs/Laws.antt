@@ -11,7 +11,7 @@ use Rattle.record.specs.declared.Record.{Record}
 use Rattle.record.specs.Bytes.{encoded, decoded}
 use Rattle.record.specs.Range.{InRange}
 use Rattle.record.proofs.Laws.{encoded_length, read_back}
-use Rattle.file.specs.declared.Found.TheVariants.{At}
+use Rattle.std.specs.Prelude.{Some}
 use Rattle.file.specs.File.{has_room, record_at, stored}
 
 pub stored_length : (r : Record) (i : ℕ) (file : List ℕ) → length (stored r i file) ≡ length file
@@ -23,10 +23,10 @@ module _ (r : Record) (i : ℕ) (file : List ℕ) (room : has_room file i ≡ tr
   stored_sets = rows.stored_sets 36 (encoded r) i file room
 
   -- what was written is read at its index
-  pub read_stored : InRange r → record_at (stored r i file) i ≡ At r
+  pub read_stored : InRange r → record_at (stored r i file) i ≡ Some r
   unfolding record_at
   read_stored h =
-      rw (stored_length r i file, room) (ap At (ap decoded (rows.read_stored 36 (encoded r) i file room (encoded_length r)) ∙ read_back r h))
+      rw (stored_length r i file, room) (ap Some (ap decoded (rows.read_stored 36 (encoded r) i file room (encoded_length r)) ∙ read_back r h))
 
   -- and at any other index what was there
   pub read_other : (j : ℕ) → j ≢ i → record_at (stored r i file) j ≡ record_at file j

@@ -1,10 +1,8 @@
 -- The records of a file by their index: a file of rows of 36 bytes.
-use Rattle.std.specs.Prelude.{ℕ, Bool, cond, List}
+use Rattle.std.specs.Prelude.{ℕ, Bool, cond, List, Option, Some, None}
 use Rattle.rowfile.specs.Rows as rows
 use Rattle.record.specs.declared.Record.{Record}
 use Rattle.record.specs.Bytes.{encoded, decoded}
-use Rattle.file.specs.declared.Found.{Found}
-use Rattle.file.specs.declared.Found.TheVariants.{At, Past}
 
 -- how many records a file has, or has room for; bytes too few for a record count for nothing
 abbrev pub count : List ℕ → ℕ
@@ -38,8 +36,8 @@ abbrev pub record_in : List ℕ → ℕ → Record
 record_in file index = decoded (bytes_at file index)
 
 -- the record at an index of a file, if there is one
-unfoldable pub record_at : List ℕ → ℕ → Found
-record_at file index = cond (has_room file index) (At (record_in file index)) Past
+unfoldable pub record_at : List ℕ → ℕ → Option Record
+record_at file index = cond (has_room file index) (Some (record_in file index)) None
 
 -- the file with the record at the index, where it has room there, and otherwise as it was
 abbrev pub stored : Record → ℕ → List ℕ → List ℕ

@@ -1,18 +1,11 @@
 // The record file: a record's 36 bytes, and the records of a file by their index.
 #![tactic(auto)]
 
-ghost use Rattle.std.specs.Prelude.{◌≡◌};
+ghost use Rattle.std.specs.Prelude.{◌≡◌, ◌/◌, ◌<◌, length};
 ghost use Rattle.record.specs.Bytes.{encoded};
-ghost use Rattle.file.specs.File.{has_room, record_at, stored};
+ghost use Rattle.file.specs.File.{has_room, record_at, record_in, stored};
 
 use record::Record;
-
-// What stands at an index of a record file.
-#[derive(Clone, Copy)]
-pub enum Found {
-    At(Record),
-    Past,
-}
 
 // The record's 36 bytes.
 pub fn bytes(r: Record) -> [u8; 36]
@@ -42,14 +35,21 @@ pub fn put(r: Record, file: &mut [u8], index: usize) -> bool
     rowfile::put(&bytes(r), file, index)
 }
 
-// The record at the index of the file.
-pub fn read(file: &[u8], index: usize) -> Found
+// The record at the index of the file, where there is one.
+#[tactic(auto, unfolding(crate::specs::File::record_at))]
+pub fn read(file: &[u8], index: usize) -> Option<Record>
     ensures { result ≡ record_at file.now index }
 {
     if file.len() / Record::SIZE <= index {
-        return Found::Past;
+        return None;
     }
-    let base = Record::SIZE * index;
-    let stop = base + Record::SIZE;
-    Found::At(Record::of_bytes(&file[base..stop]))
+    Some(at(file, index))
+}
+
+// The record at an index at which the file has one.
+pub fn at(file: &[u8], index: usize) -> Record
+    requires { index < length file.now / 36 }
+    ensures { result ≡ record_in file.now index }
+{
+    Record::of_bytes(rowfile::row(file, Record::SIZE, index))
 }

@@ -9,8 +9,9 @@ use borrow.Author.Tests.{eqb-true}
 use lib.Dec.{eqb}
 use lib.ListN.{length}
 use Rattle.lexer.specs.Kinds as Kind
-use Rattle.numeral.specs.declared.Value.{Value}
-use Rattle.numeral.specs.declared.Value.TheVariants.{Scaled, Not}
+use Rattle.numeral.specs.declared.Scaled.{Scaled}
+use Rattle.std.specs.declared.option.Option.{Option}
+use Rattle.std.specs.declared.option.Option.TheVariants.{Some, None}
 use Rattle.numeral.specs.Numeral.{numeral_of}
 use Rattle.word.specs.Words.{same, word_of, word, is_key}
 use Rattle.word.specs.Codes.{code_of, values_of}
@@ -96,9 +97,9 @@ module _ {A M : Type 0} where
   unfolding expect_ident
   ident_past l a = looks Kind.name a _ (λ t b h. ok_cond (Past a) (same t.bytes l) _ _ h refl)
 
-  valued_past : (a b : Ahead A M) → Suf (all b) a.rest → (v : Value) → Ok (Past a) (valued v b)
-  valued_past a b h (Scaled g m) = h
-  valued_past a b h Not = refl
+  valued_past : (a b : Ahead A M) → Suf (all b) a.rest → (v : Option Scaled) → Ok (Past a) (valued v b)
+  valued_past a b h (Some v) = h
+  valued_past a b h None = refl
 
   number_past : (a : Ahead A M) → Ok (Past a) (parse_number a)
   unfolding parse_number

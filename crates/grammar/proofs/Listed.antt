@@ -8,9 +8,11 @@ use native.Mathlib.Omega.{arith}
 use lib.Dec.{eqb}
 use lib.ListN.{length}
 use Rattle.lexer.specs.Kinds as Kind
-use Rattle.numeral.specs.declared.Value.{Value}
-use Rattle.numeral.specs.declared.Value.TheVariants.{Scaled, Not}
-use Rattle.numeral.specs.Numeral.{numeral_of, Good}
+use Rattle.std.specs.Option.{IfSome}
+use Rattle.numeral.specs.declared.Scaled.{Scaled}
+use Rattle.std.specs.declared.option.Option.{Option}
+use Rattle.std.specs.declared.option.Option.TheVariants.{Some, None}
+use Rattle.numeral.specs.Numeral.{scaled, numeral_of, Good}
 use Rattle.numeral.specs.Stored.{stored_of}
 use Rattle.numeral.proofs.Good.{good}
 use Rattle.record.specs.declared.Record.{Record}
@@ -41,9 +43,9 @@ pub number_stored : {A M : Type 0} (a : Ahead A M) → Holds Stored (parse_numbe
 unfolding parse_number
 number_stored {A} {M} a = holds_after Stored (expect Kind.number a) _ (λ t b. go b (numeral_of t.bytes) (good t.bytes))
   where
-    go : (b : Ahead A M) (v : Value) → Good v → Holds Stored (valued v b)
-    go b (Scaled g m) h = record { negative = g; magnitude = m; within = h; is = refl }
-    go b Not h = tt
+    go : (b : Ahead A M) (v : Option Scaled) → IfSome v Good → Holds Stored (valued v b)
+    go b (Some v) h = record { negative = v.negative; magnitude = v.millionths; within = h; is = refl }
+    go b None h = tt
 
 -- THE CODE, ITEM BY ITEM
 
@@ -244,7 +246,7 @@ all_listed s rs e = every_so _ _ (λ r h. h.is-listed) rs (all_sound s rs e)
 pub stored_fits : (v : ℕ) → Stored v → v < 2 ^ 64
 stored_fits v n = rw n.is (go n.negative n.magnitude n.within)
   where
-    go : (g : Bool) (m : ℕ) → Good (Scaled g m) → stored_of g m < 2 ^ 64
+    go : (g : Bool) (m : ℕ) → Good (scaled g m) → stored_of g m < 2 ^ 64
     go true m h = omega arith
     go false m h = omega arith
 

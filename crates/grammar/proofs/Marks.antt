@@ -8,8 +8,9 @@ use native.Mathlib.Omega.{arith}
 use lib.Dec.{leb, eqb}
 use lib.ListN.{length}
 use Rattle.lexer.specs.Kinds as Kind
-use Rattle.numeral.specs.declared.Value.{Value}
-use Rattle.numeral.specs.declared.Value.TheVariants.{Scaled, Not}
+use Rattle.numeral.specs.declared.Scaled.{Scaled}
+use Rattle.std.specs.declared.option.Option.{Option}
+use Rattle.std.specs.declared.option.Option.TheVariants.{Some, None}
 use Rattle.numeral.specs.Numeral.{numeral_of}
 use Rattle.word.specs.Words.{same, word_of, word, is_key}
 use Rattle.word.specs.Codes.{code_of, values_of}
@@ -92,9 +93,9 @@ module _ {A M : Type 0} (R : ℕ → M → Type 0) where
     unfolding expect_ident
     ident_sound l = sound_then (get_name a) _ (expect_sound Kind.name) (λ t b g. sound_cond (same t.bytes l) _ _ g (g.0 7 refl))
 
-    valued_sound : (v : Value) → Sound (valued v a)
-    valued_sound (Scaled g m) = h
-    valued_sound Not = h.0 9 refl
+    valued_sound : (v : Option Scaled) → Sound (valued v a)
+    valued_sound (Some v) = h
+    valued_sound None = h.0 9 refl
 
     enum_sound : (f : ℕ → ℕ) → Sound (parse_enum f a)
     unfolding parse_enum

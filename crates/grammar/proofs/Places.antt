@@ -8,11 +8,12 @@ use mathlib.Core.List.{List, [], ◌∷◌, map, Memᴰ}
 use native.Mathlib.Omega.{arith}
 use lib.Dec.{eqb}
 use lib.ListN.{length, length-take, length-drop}
+use Rattle.refusal.specs.declared.Refusal.{Refusal}
 use Rattle.record.specs.declared.Record.{Record}
 use Rattle.record.specs.Made.{library}
 use Rattle.lexer.specs.declared.Lexed.{Lexed}
 use Rattle.lexer.specs.declared.Lexed.TheVariants.{Found, End, Bad}
-use Rattle.lexer.specs.declared.Screened.{Screened}
+use Rattle.std.specs.Prelude.{Result, Ok, Err, ⊤}
 use Rattle.lexer.specs.Lex.{from, rest, lex_from}
 use Rattle.lexer.specs.Screen.{screened}
 use Rattle.lexer.specs.Places.{Within}
@@ -54,12 +55,12 @@ module _ (P : List (Rec ℕ) → Type 0) (Q : List Record → Type 0) (f : (rs :
     unfolding reading
     reading_law = go (screened s)
       where
-        go : (c : Screened) → Told Q (elim c [
-          | Screened.Refused r ↦ refusal_of r
-          | Screened.Clear ↦ told (read_ahead (ahead s (from s 0 1)))
+        go : (c : Result ⊤ Refusal) → Told Q (elim c [
+          | Err r ↦ refusal_of r
+          | Ok clear ↦ told (read_ahead (ahead s (from s 0 1)))
         ])
-        go (Screened.Refused r) = tt
-        go Screened.Clear = ahead_law (ahead s (from s 0 1)) h
+        go (Err r) = tt
+        go (Ok clear) = ahead_law (ahead s (from s 0 1)) h
 
     pub of_reading : (rs : List Record) → reading s ≡ records rs → Q rs
     of_reading rs e = rw e at reading_law

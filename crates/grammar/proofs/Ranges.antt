@@ -7,10 +7,11 @@ use mathlib.Core.List.Memᴰ
 use mathlib.Core.List.{List, [], ◌∷◌, map, Memᴰ}
 use native.Mathlib.Omega.{arith}
 use lib.ListN.{length}
+use Rattle.refusal.specs.declared.Refusal.{Refusal}
 use Rattle.record.specs.declared.Record.{Record}
 use Rattle.record.specs.Made.{library}
 use Rattle.record.specs.Range.{InRange}
-use Rattle.lexer.specs.declared.Screened.{Screened}
+use Rattle.std.specs.Prelude.{Result, Ok, Err, ⊤}
 use Rattle.lexer.specs.Lex.{from}
 use Rattle.lexer.specs.Screen.{limit, screened}
 use Rattle.lexer.proofs.Cleared.{clear_short}
@@ -30,12 +31,12 @@ pub short : (s : List ℕ) (rs : List Record) → reading s ≡ records rs → l
 unfolding reading
 short s rs e = go (screened s) refl e
   where
-    go : (c : Screened) → screened s ≡ c → elim c as (λ d. Reading) [
-      | Screened.Refused r ↦ refusal_of r
-      | Screened.Clear ↦ told (read_ahead (ahead s (from s 0 1)))
+    go : (c : Result ⊤ Refusal) → screened s ≡ c → elim c as (λ d. Reading) [
+      | Err r ↦ refusal_of r
+      | Ok clear ↦ told (read_ahead (ahead s (from s 0 1)))
     ] ≡ records rs → length s ≤ limit
-    go (Screened.Refused r) h q = absurd (let z : ◌≡◌ {A = ℕ} 0 1 = cc in omega arith)
-    go Screened.Clear h q = clear_short s h
+    go (Err r) h q = absurd (let z : ◌≡◌ {A = ℕ} 0 1 = cc in omega arith)
+    go (Ok clear) h q = clear_short s h
 
 -- the two spare bytes are nought
 spare_filed : (rs : List (Rec ℕ)) → Unit {0} → Every (λ r. r.spare ≡ 0) (map filed rs)

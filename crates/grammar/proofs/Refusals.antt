@@ -13,7 +13,8 @@ use Rattle.refusal.specs.declared.Refusal.{Refusal}
 use Rattle.refusal.specs.Table.{refused, too_long, not_ascii}
 use Rattle.lexer.specs.declared.Lexed.{Lexed}
 use Rattle.lexer.specs.declared.Lexed.TheVariants.{Found, End, Bad}
-use Rattle.lexer.specs.declared.Screened.{Screened}
+use Rattle.std.specs.Prelude.{Result, Ok, Err, ⊤}
+use Rattle.lexer.specs.Kinds.{number_of}
 use Rattle.lexer.specs.Lex.{from}
 use Rattle.lexer.specs.Screen.{limit, first_high, screened}
 use Rattle.lexer.proofs.Whole.{unrolls, each}
@@ -44,7 +45,7 @@ complaint n c = leb-true 4 n (both (leb 4 n) (leb n 10) c).0
 module _ (s : List ℕ) (l : length s ≤ limit) where
   coming : (r : Lexed) → Memᴰ r (from s 0 1) → Kinded r → Coming (Right s) (tok s r)
   coming (Found t) m k = (
-    λ e. absurd (omega (arith, eqb-true t.kind bad e)),
+    λ e. absurd (omega (arith, eqb-true (number_of t.kind) bad e)),
     λ e n c. (record { three = λ q. absurd (omega (arith, complaint n c)); others = λ g. inl (t, m, refl) }, line_stop s 0 1 t m (omega arith)),
   )
   coming (End i) m k = (
@@ -96,7 +97,7 @@ clear_stopped s l (r ∷ rs) q = ahead_stopped (Right s) (ahead s (r ∷ rs)) (f
 -- a refusal is the screen's, or one of 3 to 10 with its place and line
 abbrev Told : List ℕ → Reading → Type 0
 Told s (records rs) = Unit {0}
-Told s (refusal_of r) = (screened s ≡ Screened.Refused r) ⊎ ((3 ≤ r.number) × (r.number ≤ 10) × Placed s r.number r.place × (r.line ≡ line_at s r.place))
+Told s (refusal_of r) = (screened s ≡ Err r) ⊎ ((3 ≤ r.number) × (r.number ≤ 10) × Placed s r.number r.place × (r.line ≡ line_at s r.place))
 
 told_right : (s : List ℕ) (o : Outcome Mark (Rec ℕ)) → Stopped (Right s) o → Told s (told o)
 told_right s (read rs) h = tt
@@ -106,18 +107,18 @@ reading_told : (s : List ℕ) → Told s (reading s)
 unfolding reading
 reading_told s = go (screened s) refl
   where
-    go : (c : Screened) → screened s ≡ c → Told s (elim c as (λ d. Reading) [
-      | Screened.Refused r ↦ refusal_of r
-      | Screened.Clear ↦ told (read_ahead (ahead s (from s 0 1)))
+    go : (c : Result ⊤ Refusal) → screened s ≡ c → Told s (elim c as (λ d. Reading) [
+      | Err r ↦ refusal_of r
+      | Ok clear ↦ told (read_ahead (ahead s (from s 0 1)))
     ])
-    go (Screened.Refused r) e = inl e
-    go Screened.Clear e = told_right s (read_ahead (ahead s (from s 0 1))) (clear_stopped s (clear_short s e) (from s 0 1) refl)
+    go (Err r) e = inl e
+    go (Ok clear) e = told_right s (read_ahead (ahead s (from s 0 1))) (clear_stopped s (clear_short s e) (from s 0 1) refl)
 
-screen_says : (s : List ℕ) (r : Refusal) → screened s ≡ Screened.Refused r → (1 ≤ r.number) × (r.number ≤ 2) × (r.line ≡ 0)
+screen_says : (s : List ℕ) (r : Refusal) → screened s ≡ Err r → (1 ≤ r.number) × (r.number ≤ 2) × (r.line ≡ 0)
 unfolding screened
 screen_says s r = go (ltb limit (length s)) (ltb (first_high s) (length s))
   where
-    go : (b c : Bool) → cond b (Screened.Refused (refused too_long 0 0)) (cond c (Screened.Refused (refused not_ascii (first_high s) 0)) Screened.Clear) ≡ Screened.Refused r
+    go : (b c : Bool) → ◌≡◌ {A = Result ⊤ Refusal} (cond b (Err (refused too_long 0 0)) (cond c (Err (refused not_ascii (first_high s) 0)) (Ok tt))) (Err r)
         → (1 ≤ r.number) × (r.number ≤ 2) × (r.line ≡ 0)
     go true c e = let z : r ≡ refused too_long 0 0 = cc in rw z (omega arith, omega arith, refl)
     go false true e = let z : r ≡ refused not_ascii (first_high s) 0 = cc in rw z (omega arith, omega arith, refl)
@@ -125,7 +126,7 @@ screen_says s r = go (ltb limit (length s)) (ltb (first_high s) (length s))
 
 -- EVERY REFUSAL OF A READING, for every text
 module _ (s : List ℕ) (n p l : ℕ) (e : reading s ≡ refusal_of (refused n p l)) where
-  said : (screened s ≡ Screened.Refused (refused n p l)) ⊎ ((3 ≤ n) × (n ≤ 10) × Placed s n p × (l ≡ line_at s p))
+  said : (screened s ≡ Err (refused n p l)) ⊎ ((3 ≤ n) × (n ≤ 10) × Placed s n p × (l ≡ line_at s p))
   said = rw e at (reading_told s)
 
   -- its number is one of 1 to 10
@@ -133,7 +134,7 @@ module _ (s : List ℕ) (n p l : ℕ) (e : reading s ≡ refusal_of (refused n p
   refusal_number = ⊎_elim (λ c. let h = screen_says s (refused n p l) c in (h.0, omega (arith, h.1))) (λ h. (omega (arith, h.0), h.1)) said
 
   -- 1 and 2 are the screen's, on line 0
-  pub refusal_screen : n ≤ 2 → (screened s ≡ Screened.Refused (refused n p l)) × (l ≡ 0)
+  pub refusal_screen : n ≤ 2 → (screened s ≡ Err (refused n p l)) × (l ≡ 0)
   refusal_screen g = ⊎_elim (λ c. (c, (screen_says s (refused n p l) c).2)) (λ h. absurd (omega (arith, h.0))) said
 
   -- 3 stands at a byte that starts no token, 4 to 10 at the end of a token or of the text

@@ -1,8 +1,7 @@
 -- How a grammar reads tokens: a turn takes a statement, or one of its parts, and gives at most one record.
-use Rattle.std.specs.Prelude.{ℕ, zero, suc, ◌+◌, Bool, true, false, cond, ◌||◌, List, [], ◌∷◌, eqb, length, take as list_take, drop as list_drop}
+use Rattle.std.specs.Prelude.{ℕ, zero, suc, ◌+◌, Bool, true, false, cond, ◌||◌, List, [], ◌∷◌, eqb, length, Option, Some, None, take as list_take, drop as list_drop}
 use Rattle.lexer.specs.Kinds as Kind
-use Rattle.numeral.specs.declared.Value.{Value}
-use Rattle.numeral.specs.declared.Value.TheVariants.{Scaled, Not}
+use Rattle.numeral.specs.declared.Scaled.{Scaled}
 use Rattle.numeral.specs.Numeral.{numeral_of}
 use Rattle.numeral.specs.Numbers.{value_numbers}
 use Rattle.numeral.specs.Stored.{stored_of}
@@ -86,9 +85,9 @@ unfoldable pub expect_ident : {A M : Type 0} → List ℕ → Ahead A M → Answ
 expect_ident l a = then (get_name a) (λ t b. cond (same t.bytes l) (ok t b) (complain 7 b))
 
 -- a number as stored: no number 4, no numeral 9
-abbrev pub valued : {A M : Type 0} → Value → Ahead A M → Answer A M ℕ
-valued (Scaled negative m) a = ok (stored_of negative m) a
-valued Not a = complain (value_numbers Not).refusal a
+abbrev pub valued : {A M : Type 0} → Option Scaled → Ahead A M → Answer A M ℕ
+valued (Some v) a = ok (stored_of v.negative v.millionths) a
+valued None a = complain (value_numbers None).refusal a
 
 unfoldable pub parse_number : {A M : Type 0} → Ahead A M → Answer A M ℕ
 parse_number a = then (expect Kind.number a) (λ t b. valued (numeral_of t.bytes) b)

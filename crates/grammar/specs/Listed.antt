@@ -2,8 +2,7 @@
 use Rattle.std.specs.Prelude.{ℕ, ◌≡◌, Bool, cond, ◌&&◌, List, [], ◌∷◌, map, leb, eqb, length}
 use Rattle.record.specs.Kinds.{VERSION, FOREIGN, VIA}
 use Rattle.word.specs.Codes.{kind_values}
-use Rattle.numeral.specs.declared.Value.TheVariants.{Scaled}
-use Rattle.numeral.specs.Numeral.{Good}
+use Rattle.numeral.specs.Numeral.{scaled, Good}
 use Rattle.numeral.specs.Stored.{stored_of}
 
 -- the codes of a kind: from the least to the greatest
@@ -32,5 +31,5 @@ listed k c = (leb VERSION k && leb k VIA) && allows kind_codes k c
 pub record Stored (field : ℕ) : Type 0 where
   pub negative : Bool
   pub magnitude : ℕ
-  pub within : Good (Scaled negative magnitude)
+  pub within : Good (scaled negative magnitude)
   pub is : field ≡ stored_of negative magnitude

@@ -1,12 +1,12 @@
 -- THE READING OF A TEXT: its records in order, or its refusal.
-use Rattle.std.specs.Prelude.{ℕ, suc, ◌+◌, ◌-◌, cond, List, [], ◌∷◌, map, eqb, length, take, drop}
+use Rattle.std.specs.Prelude.{ℕ, suc, ◌+◌, ◌-◌, cond, List, [], ◌∷◌, map, eqb, length, take, drop, Ok, Err}
 use Rattle.refusal.specs.declared.Refusal.{Refusal}
 use Rattle.refusal.specs.Table.{refused as refusal}
 use Rattle.record.specs.declared.Record.{Record}
 use Rattle.record.specs.Made.{made, library}
 use Rattle.lexer.specs.declared.Lexed.{Lexed}
 use Rattle.lexer.specs.declared.Lexed.TheVariants.{Found, End, Bad}
-use Rattle.lexer.specs.declared.Screened.{Screened}
+use Rattle.lexer.specs.Kinds.{number_of}
 use Rattle.lexer.specs.Lex.{from}
 use Rattle.lexer.specs.Screen.{screened}
 use Rattle.grammar.specs.Tokens.{Tok, Ahead, end, bad}
@@ -22,7 +22,7 @@ pub record Mark : Type 0 where
 
 abbrev pub tok : List ℕ → Lexed → Tok ℕ Mark
 tok s (Found t) =
-    record { kind = t.kind; bytes = take (t.stop - t.start) (drop t.start s); at = t.start; mark = record { place = t.stop; line = t.line } }
+    record { kind = number_of t.kind; bytes = take (t.stop - t.start) (drop t.start s); at = t.start; mark = record { place = t.stop; line = t.line } }
 tok s (End n) = record { kind = end; bytes = []; at = length s; mark = record { place = length s; line = n } }
 tok s (Bad i n) = record { kind = bad; bytes = []; at = i; mark = record { place = i; line = n } }
 
@@ -70,6 +70,6 @@ told (stopped n m) = refusal_of (refusal n m.place m.line)
 -- refusal 1, then 2, then the first of 3 to 10, or the records
 unfoldable pub reading : List ℕ → Reading
 reading s = elim (screened s) [
-  | Screened.Refused r ↦ refusal_of r
-  | Screened.Clear ↦ told (read_ahead (ahead s (from s 0 1)))
+  | Err r ↦ refusal_of r
+  | Ok clear ↦ told (read_ahead (ahead s (from s 0 1)))
 ]

@@ -7,6 +7,7 @@ use mathlib.Core.Bool.{Bool, true, false, cond, ◌&&◌, false≢true}
 use mathlib.Core.List.{List}
 use lib.Dec.{eqb}
 use lib.ListN.{length}
+use Rattle.std.specs.Prelude.{Option, Some, None, Result, Ok, Err}
 use borrow.Author.Tests.{eq-eqb, ne_eqb, eqb-true, eqb-false}
 use Rattle.refusal.specs.declared.Refusal.{Refusal}
 use Rattle.refusal.specs.Table.{refused, done, not_whole, index_differs}
@@ -20,7 +21,6 @@ use Rattle.verdict.proofs.Read.{refusal_low}
 use Rattle.verdict.proofs.Cases.{verdict_one_of}
 use Rattle.entry.specs.declared.Entry.{Entry}
 use Rattle.entry.specs.Entries.{held}
-use Rattle.index.specs.declared.Sought.{Sought}
 use Rattle.index.specs.Index.{entries, index_of}
 use Rattle.index.specs.Answers.{or_else, in_rows, differ, compared, consulted, no_place, sought, found, numbers}
 use Rattle.index.proofs.Compared.{compared_same}
@@ -69,8 +69,8 @@ module _ (s file index : List ℕ) where
   -- LOOKING UP
 
   module _ (owner : ℕ) (name : List ℕ) where
-    abbrev answer : Bool → Bool → Sought
-    answer b c = cond b (cond c Sought.Nowhere (Sought.At (sought s owner name (reading s)))) (Sought.Refused (consulted s (reading s) file index))
+    abbrev answer : Bool → Bool → Result (Option ℕ) Refusal
+    answer b c = cond b (Ok (cond c None (Some (sought s owner name (reading s))))) (Err (consulted s (reading s) file index))
 
     abbrev fine : Bool
     fine = eqb (consulted s (reading s) file index).number done
@@ -91,34 +91,34 @@ module _ (s file index : List ℕ) where
     true_fine : fine ≡ true → Fine
     true_fine h = consulted_nought (eqb-true _ _ h)
 
-    to_at : (a : ℕ) (b c : Bool) → fine ≡ b → none ≡ c → answer b c ≡ Sought.At a → Fine × (sought s owner name (reading s) ≡ a) × (a ≡ no_place → ⊥)
-    to_at a true true p q h = absurd (let z : ◌≡◌ {A = ℕ} 0 1 = cc in omega arith)
+    to_at : (a : ℕ) (b c : Bool) → fine ≡ b → none ≡ c → answer b c ≡ Ok (Some a) → Fine × (sought s owner name (reading s) ≡ a) × (a ≡ no_place → ⊥)
+    to_at a true true p q h = cc
     to_at a true false p q h = let z : sought s owner name (reading s) ≡ a = cc in (true_fine p, z, λ e. eqb-false _ _ q (z ∙ e))
-    to_at a false c p q h = absurd (let z : ◌≡◌ {A = ℕ} 0 1 = cc in omega arith)
+    to_at a false c p q h = cc
 
-    to_nowhere : (b c : Bool) → fine ≡ b → none ≡ c → answer b c ≡ Sought.Nowhere → Fine × (sought s owner name (reading s) ≡ no_place)
+    to_nowhere : (b c : Bool) → fine ≡ b → none ≡ c → answer b c ≡ Ok None → Fine × (sought s owner name (reading s) ≡ no_place)
     to_nowhere true true p q h = (true_fine p, eqb-true _ _ q)
-    to_nowhere true false p q h = absurd (let z : ◌≡◌ {A = ℕ} 0 1 = cc in omega arith)
-    to_nowhere false c p q h = absurd (let z : ◌≡◌ {A = ℕ} 0 1 = cc in omega arith)
+    to_nowhere true false p q h = cc
+    to_nowhere false c p q h = cc
 
-    to_refused : (r : Refusal) (b c : Bool) → fine ≡ b → none ≡ c → answer b c ≡ Sought.Refused r → (Fine → ⊥) × (consulted s (reading s) file index ≡ r)
-    to_refused r true true p q h = absurd (let z : ◌≡◌ {A = ℕ} 0 1 = cc in omega arith)
-    to_refused r true false p q h = absurd (let z : ◌≡◌ {A = ℕ} 0 1 = cc in omega arith)
+    to_refused : (r : Refusal) (b c : Bool) → fine ≡ b → none ≡ c → answer b c ≡ Err r → (Fine → ⊥) × (consulted s (reading s) file index ≡ r)
+    to_refused r true true p q h = cc
+    to_refused r true false p q h = cc
     to_refused r false c p q h = let z : consulted s (reading s) file index ≡ r = cc in (λ f. eqb-false _ _ p (ap (λ (x : Refusal). x.number) f), z)
 
-    pub found_at : (a : ℕ) → (found s (reading s) file index owner name ≡ Sought.At a) ↔ (Fine × (sought s owner name (reading s) ≡ a) × (a ≡ no_place → ⊥))
+    pub found_at : (a : ℕ) → (found s (reading s) file index owner name ≡ Ok (Some a)) ↔ (Fine × (sought s owner name (reading s) ≡ a) × (a ≡ no_place → ⊥))
     found_at a = (
       λ h. to_at a fine none refl refl (sym found_is ∙ h),
       λ (f, e, n). found_is ∙ rw (fine_true f, e, ne_eqb a no_place n),
     )
 
-    pub found_nowhere : (found s (reading s) file index owner name ≡ Sought.Nowhere) ↔ (Fine × (sought s owner name (reading s) ≡ no_place))
+    pub found_nowhere : (found s (reading s) file index owner name ≡ Ok None) ↔ (Fine × (sought s owner name (reading s) ≡ no_place))
     found_nowhere = (λ h. to_nowhere fine none refl refl (sym found_is ∙ h), λ (f, e). found_is ∙ rw (fine_true f, e))
 
-    pub found_refused : (r : Refusal) → (found s (reading s) file index owner name ≡ Sought.Refused r) ↔ ((Fine → ⊥) × (consulted s (reading s) file index ≡ r))
+    pub found_refused : (r : Refusal) → (found s (reading s) file index owner name ≡ Err r) ↔ ((Fine → ⊥) × (consulted s (reading s) file index ≡ r))
     found_refused r = (
       λ h. to_refused r fine none refl refl (sym found_is ∙ h),
-      λ (f, e). let z : fine ≡ false = ne_eqb _ _ (λ m. f (consulted_nought m)) in found_is ∙ rw z (ap Sought.Refused e),
+      λ (f, e). let z : fine ≡ false = ne_eqb _ _ (λ m. f (consulted_nought m)) in found_is ∙ rw z (ap Err e),
     )
 
     -- its `at` is what is sought

@@ -7,6 +7,7 @@ use mathlib.Core.Bool.{true, false}
 use mathlib.Core.List.Memᴰ
 use mathlib.Core.List.{List, Permᴰ}
 use lib.ListN.{length}
+use Rattle.std.specs.Prelude.{Some, None, Ok, Err}
 use Rattle.ordered.specs.Order.{Rising}
 use Rattle.ordered.proofs.Members.{get_mem}
 use Rattle.refusal.specs.declared.Refusal.{Refusal}
@@ -21,7 +22,6 @@ use Rattle.entry.specs.declared.Entry.{Entry}
 use Rattle.entry.specs.Entries.{whole, held, encoded_all}
 use Rattle.entry.specs.Order.{precedes}
 use Rattle.entry.proofs.Held.{all_whole, all_held}
-use Rattle.index.specs.declared.Sought.{Sought}
 use Rattle.index.specs.Index.{entries, index_of}
 use Rattle.index.specs.Answers.{built, consulted, no_place, sought, found}
 use Rattle.index.specs.Meaning.{LeastAt, NoneCalled, DifferAt}
@@ -128,7 +128,7 @@ none_says s rs e owner name = let z = least_nowhere s owner name rs e in (λ h. 
 
 -- the answer is an `at` where the index is the one that would be built and that is the least one
 pub at_says : (s file index : List ℕ) (owner : ℕ) (name : List ℕ) (a : ℕ) → Bytes index
-    → (found s (reading s) file index owner name ≡ Sought.At a)
+    → (found s (reading s) file index owner name ≡ Ok (Some a))
     ↔ ((rs : List Record) × Reads s rs × Accepted s file × (index ≡ encoded_all (index_of s rs)) × LeastAt s owner name rs a)
 at_says s file index owner name a b = (
   λ h.
@@ -144,7 +144,7 @@ at_says s file index owner name a b = (
 
 -- that there is none, where the index is the one that would be built and there is none
 pub nowhere_says : (s file index : List ℕ) (owner : ℕ) (name : List ℕ) → Bytes index
-    → (found s (reading s) file index owner name ≡ Sought.Nowhere)
+    → (found s (reading s) file index owner name ≡ Ok None)
     ↔ ((rs : List Record) × Reads s rs × Accepted s file × (index ≡ encoded_all (index_of s rs)) × NoneCalled s owner name rs)
 nowhere_says s file index owner name b = (
   λ h.
@@ -156,6 +156,6 @@ nowhere_says s file index owner name b = (
 
 -- and a refusal where checking the index gives it
 pub refused_says : (s file index : List ℕ) (owner : ℕ) (name : List ℕ) (r : Refusal)
-    → (found s (reading s) file index owner name ≡ Sought.Refused r)
+    → (found s (reading s) file index owner name ≡ Err r)
     ↔ ((consulted s (reading s) file index ≡ refused done 0 0 → ⊥) × (consulted s (reading s) file index ≡ r))
 refused_says s file index owner name r = found_refused s file index owner name r

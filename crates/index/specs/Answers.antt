@@ -1,5 +1,5 @@
 -- WHAT THE CALLS ANSWER that build, check and search an index, and the buffer of an index as building leaves it.
-use Rattle.std.specs.Prelude.{ℕ, suc, min, Bool, cond, ◌&&◌, List, [], ◌∷◌, ◌++◌, eqb, leb, length, drop}
+use Rattle.std.specs.Prelude.{ℕ, suc, min, Bool, cond, ◌&&◌, List, [], ◌∷◌, ◌++◌, eqb, leb, length, drop, Option, Some, None, Result, Ok, Err}
 use Rattle.refusal.specs.declared.Refusal.{Refusal}
 use Rattle.refusal.specs.Table.{refused, done, record_room, not_whole, index_differs}
 use Rattle.rowfile.specs.Rows as rows
@@ -9,7 +9,6 @@ use Rattle.verdict.specs.Verdict.{verdict}
 use Rattle.entry.specs.declared.Entry.{Entry}
 use Rattle.entry.specs.Entries.{count, held, encoded_all}
 use Rattle.entry.specs.Order.{alike, name_of}
-use Rattle.index.specs.declared.Sought.{Sought}
 use Rattle.index.specs.Index.{entries, index_of}
 
 -- THE ORDER OF REFUSALS
@@ -92,12 +91,12 @@ abbrev pub sought : List ℕ → ℕ → List ℕ → Reading → ℕ
 sought s owner name (records rs) = least s owner name (entries rs)
 sought s owner name (refusal_of r) = no_place
 
--- the answer: what checking the index refuses, or where it is
-unfoldable pub found : List ℕ → Reading → List ℕ → List ℕ → ℕ → List ℕ → Sought
+-- the answer: what checking the index refuses, or where it is, if anywhere
+unfoldable pub found : List ℕ → Reading → List ℕ → List ℕ → ℕ → List ℕ → Result (Option ℕ) Refusal
 found s reading file index owner name =
     let c = consulted s reading file index in
     let at = sought s owner name reading in
-    cond (eqb c.number done) (cond (eqb at no_place) Sought.Nowhere (Sought.At at)) (Sought.Refused c)
+    cond (eqb c.number done) (Ok (cond (eqb at no_place) None (Some at))) (Err c)
 
 -- the numbers of an answer: refusal, place and line, then the `at`
 pub record Numbers : Type 0 where
@@ -106,7 +105,7 @@ pub record Numbers : Type 0 where
   pub line : ℕ
   pub at : ℕ
 
-abbrev pub numbers : Sought → Numbers
-numbers (Sought.At a) = record { refusal = 0; place = 0; line = 0; at = a }
-numbers Sought.Nowhere = record { refusal = 0; place = 0; line = 0; at = no_place }
-numbers (Sought.Refused r) = record { refusal = r.number; place = r.place; line = r.line; at = no_place }
+abbrev pub numbers : Result (Option ℕ) Refusal → Numbers
+numbers (Ok (Some a)) = record { refusal = 0; place = 0; line = 0; at = a }
+numbers (Ok None) = record { refusal = 0; place = 0; line = 0; at = no_place }
+numbers (Err r) = record { refusal = r.number; place = r.place; line = r.line; at = no_place }

@@ -1,5 +1,5 @@
 -- Worked examples of an index, each computed from the definitions.
-use Rattle.std.specs.Prelude.{ℕ, ◌≡◌, refl, List, [], ◌∷◌, ◌++◌}
+use Rattle.std.specs.Prelude.{ℕ, ◌≡◌, refl, List, [], ◌∷◌, ◌++◌, Some, None, Ok}
 use Rattle.text.specs.Text.{bytes}
 use Rattle.refusal.specs.Table.{refused}
 use Rattle.little.specs.Little.{little, number}
@@ -17,7 +17,6 @@ use Rattle.ordered.specs.Order.{insert, sorted}
 use Rattle.entry.specs.declared.Entry.{Entry}
 use Rattle.entry.specs.Entries.{entry, encoded, decoded, encoded_all}
 use Rattle.entry.specs.Order.{ahead, alike, before}
-use Rattle.index.specs.declared.Sought.{Sought}
 use Rattle.index.specs.Index.{entered, entries, index_of}
 use Rattle.index.specs.Queries.{query, held}
 use Rattle.index.specs.Queries.{decoded as decoded_query}
@@ -95,8 +94,8 @@ pub record CheckSamples : Type 0 where
   pub index_before_14 : consulted text three double (0 ∷ 0 ∷ []) ≡ refused 13 2 0
   pub room : built text three file 3 ≡ refused 0 3 0
   pub no_room : built text three file 2 ≡ refused 11 3 0
-  pub there : found text three file index library (bytes "ab") ≡ Sought.At 20
-  pub nowhere : found text three file index library (bytes "a") ≡ Sought.Nowhere
+  pub there : found text three file index library (bytes "ab") ≡ Ok (Some 20)
+  pub nowhere : found text three file index library (bytes "a") ≡ Ok None
 
 pub checks : CheckSamples
 unfolding entered entries insert sorted before ahead alike part bears least found same differ compared encoded decoded encoded_record decoded_record front joined little number same_record among first wrong lacks verdict

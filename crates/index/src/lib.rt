@@ -1,16 +1,5 @@
-// The index of a reading: what it is, what the calls that take one answer, and what is proved of it; no code but the answer of a look-up
-// and a query.
+// The index of a reading: what it is, what the calls that take one answer, and what is proved of it; no code but a query.
 #![tactic(auto)]
-
-use refusal::Refusal;
-
-// Where a SITE block, MACRO or PIN of an owner and a name is.
-#[derive(Clone, Copy)]
-pub enum Sought {
-    At(usize),
-    Nowhere,
-    Refused(Refusal),
-}
 
 // A look-up among many: an owner, and a name as a span of a lent block of names.
 #[derive(Clone, Copy)]

@@ -4,13 +4,13 @@ use native.Mathlib.Decide.{dec_lt}
 use native.Mathlib.Omega.{arith}
 use mathlib.Core.Path.{◌≡◌, refl, sym, ap, ◌∙◌}
 use mathlib.Core.Logic.{⊎_elim}
-use mathlib.Core.Bool.{Bool, true, false, cond, ◌&&◌}
+use mathlib.Core.Bool.{Bool, true, false, cond, ◌&&◌, ◌||◌}
 use mathlib.Core.List.{List}
 use borrow.Author.Tests.{eq-eqb, ne_eqb, lt-ltb, le-ltb, ltb-true}
 use lib.Dec.{eqb, ltb}
 use lib.ListN.{length}
 use Rattle.refusal.specs.declared.Refusal.{Refusal}
-use Rattle.refusal.specs.Table.{refused, done, not_whole, wrong_record}
+use Rattle.refusal.specs.Table.{refused, done, not_whole, wrong_record, judgement}
 use Rattle.rowfile.specs.Rows as rows
 use Rattle.record.specs.declared.Record.{Record}
 use Rattle.file.specs.File as records-file
@@ -26,7 +26,9 @@ use Rattle.index.specs.Queries.{count}
 use Rattle.index.specs.Many.{asked}
 use Rattle.index.proofs.Compared.{both, compared_one_of}
 use Rattle.index.proofs.Answered.{behind}
+use Rattle.std.specs.Prelude.{Result, Err, ⊤}
 use Rattle.indexer.specs.Inner.{between}
+use Rattle.indexer.proofs.Judged.{fine, judged_err, judged_ok, err_judged}
 
 -- WHICH NUMBERS AN ANSWER HAS
 
@@ -63,9 +65,30 @@ module _ (r : Refusal) (file : List ℕ) (width : ℕ) where
   abbrev first : Bool
   first = ltb 0 r.number && ltb r.number wrong_record
 
+  -- the answer, with the file's 13 in between
+  after : Refusal
+  after = cond first r (or_else (in_rows width file) r)
+
+  -- as a Result that is what the code puts in between
+  between_judged : between (judgement r) file width ≡ judgement after
+  unfolding between after
+  between_judged = elim (dec_lt 0 r.number) [
+    | yes n ↦ rw (lt-ltb 0 r.number n, ne_eqb r.number done (λ z. omega arith)) (refusing (ne_eqb r.number done (λ z. omega arith)) (ltb r.number wrong_record) (rows.whole width file))
+    | no n ↦ rw (le-ltb 0 r.number (omega arith), eq-eqb r.number done (omega arith)) (passing (eq-eqb r.number done (omega arith)) (rows.whole width file))
+  ]
+    where
+      refusing : eqb r.number done ≡ false → (b w : Bool) → cond (b || w) (Err r) (Err (refused not_whole (length file) 0)) ≡ judgement (cond b r (or_else (cond w (refused done 0 0) (refused not_whole (length file) 0)) r))
+      refusing z true w = rw z
+      refusing z false true = rw z
+      refusing z false false = refl
+
+      passing : eqb r.number done ≡ true → (w : Bool) → cond w fine (Err (refused not_whole (length file) 0)) ≡ judgement (or_else (cond w (refused done 0 0) (refused not_whole (length file) 0)) r)
+      passing z true = rw z
+      passing z false = refl
+
   -- an early refusal is given first
-  pub early_first : (r.number ≡ 0 → ⊥) → Early r → between r file width ≡ r
-  unfolding between
+  early_first : (r.number ≡ 0 → ⊥) → Early r → after ≡ r
+  unfolding after
   early_first h l = rw (lt-ltb 0 r.number (omega (arith, h)), lt-ltb r.number wrong_record l)
 
   late_behind : Late r → first ≡ false
@@ -78,13 +101,13 @@ module _ (r : Refusal) (file : List ℕ) (width : ℕ) where
   ]
 
   -- any other comes behind the file
-  pub late_last : Late r → between r file width ≡ or_else (in_rows width file) r
-  unfolding between
+  late_last : Late r → after ≡ or_else (in_rows width file) r
+  unfolding after
   late_last l = rw (late_behind l)
 
   -- no refusal: the answer was none, and the file is in whole rows
-  pub none_between : (between r file width).number ≡ 0 → (r.number ≡ 0) × (rows.whole width file ≡ true)
-  unfolding between
+  none_between : after.number ≡ 0 → (r.number ≡ 0) × (rows.whole width file ≡ true)
+  unfolding after
   none_between = go first (rows.whole width file) refl refl
     where
       go : (b c : Bool) → first ≡ b → rows.whole width file ≡ c
@@ -95,7 +118,7 @@ module _ (r : Refusal) (file : List ℕ) (width : ℕ) where
 
 -- between an early answer and a late one
 inserted : (a v x : Refusal) (file : List ℕ) (width : ℕ) → Early a → Late v
-    → or_else (between (or_else a v) file width) x ≡ or_else a (or_else (in_rows width file) (or_else v x))
+    → or_else (after (or_else a v) file width) x ≡ or_else a (or_else (in_rows width file) (or_else v x))
 inserted a v x file width early late = elim (dec_lt 0 a.number) [
   | yes n ↦
       let t : eqb a.number done ≡ false = ne_eqb a.number done (λ z. omega arith) in
@@ -111,8 +134,8 @@ stays r x h = rw (ne_eqb r.number done h)
 
 -- CHECKING AN INDEX: 13 for it comes between those of checking the records
 
-module _ (s file index : List ℕ) (r : Refusal) (is : r ≡ between (checked (reading s) file) index 16) where
-  pub check_refused : (r.number ≡ 0 → ⊥) → r ≡ consulted s (reading s) file index
+module _ (s file index : List ℕ) (r : Refusal) (is : r ≡ after (checked (reading s) file) index 16) where
+  check_refused : (r.number ≡ 0 → ⊥) → r ≡ consulted s (reading s) file index
   check_refused h = of (reading s) refl is
     where
       rest : (rs : List Record) → checked (records rs) file ≡ or_else (in_rows 36 file) (verdict rs (records-file.held file))
@@ -123,28 +146,28 @@ module _ (s file index : List ℕ) (r : Refusal) (is : r ≡ between (checked (r
           go true = refl
           go false = refl
 
-      of : (o : Reading) → reading s ≡ o → r ≡ between (checked o file) index 16 → r ≡ consulted s o file index
+      of : (o : Reading) → reading s ≡ o → r ≡ after (checked o file) index 16 → r ≡ consulted s o file index
       of (refusal_of q) e t = let l = refusal_low s q e in t ∙ early_first q index 16 (λ z. omega arith) (omega arith)
       of (records rs) e t =
           let v = verdict rs (records-file.held file) in
           let x = compared (held index) (index_of s rs) in
           sym (stays r x h)
-          ∙ ap (λ q. or_else q x) (t ∙ ap (λ q. between q index 16) (rest rs))
+          ∙ ap (λ q. or_else q x) (t ∙ ap (λ q. after q index 16) (rest rs))
           ∙ inserted (in_rows 36 file) v x index 16 (rows_early 36 file) (verdict_late rs (records-file.held file))
 
-  pub check_passed : r.number ≡ 0 → ((checked (reading s) file).number ≡ 0) × (whole index ≡ true)
+  check_passed : r.number ≡ 0 → ((checked (reading s) file).number ≡ 0) × (whole index ≡ true)
   check_passed h = none_between (checked (reading s) file) index 16 (rw is at h)
 
 -- MANY LOOK-UPS: 13 for the queries comes between those of checking the index, and 11 comes last
 
-module _ (s file index queries : List ℕ) (n : ℕ) (r : Refusal) (is : r ≡ between (consulted s (reading s) file index) queries 12) where
+module _ (s file index queries : List ℕ) (n : ℕ) (r : Refusal) (is : r ≡ after (consulted s (reading s) file index) queries 12) where
   abbrev last : Refusal
   last = room_for (count queries) n
 
   through : or_else r last ≡ asked s (reading s) file index queries n
   through = of (reading s) refl is
     where
-      of : (o : Reading) → reading s ≡ o → r ≡ between (consulted s o file index) queries 12 → or_else r last ≡ asked s o file index queries n
+      of : (o : Reading) → reading s ≡ o → r ≡ after (consulted s o file index) queries 12 → or_else r last ≡ asked s o file index queries n
       of (refusal_of q) e t =
           let l = refusal_low s q e in
           ap (λ p. or_else p last) (t ∙ early_first q queries 12 (λ z. omega arith) (omega arith)) ∙ stays q last (λ z. omega arith)
@@ -153,15 +176,43 @@ module _ (s file index queries : List ℕ) (n : ℕ) (r : Refusal) (is : r ≡ b
           let b = in_rows 16 index in
           let v = verdict rs (records-file.held file) in
           let c = compared (held index) (index_of s rs) in
-          ap (λ q. or_else q last) (t ∙ ap (λ q. between q queries 12) (sym (behind a b (or_else v c))))
+          ap (λ q. or_else q last) (t ∙ ap (λ q. after q queries 12) (sym (behind a b (or_else v c))))
           ∙ inserted (or_else a b) (or_else v c) last queries 12
           (either_of Early a b (rows_early 36 file) (rows_early 16 index))
           (either_of Late v c (verdict_late rs (records-file.held file)) (compared_late (held index) (index_of s rs)))
           ∙ behind a b (or_else (in_rows 12 queries) (or_else (or_else v c) last))
           ∙ ap (λ q. or_else a (or_else b (or_else (in_rows 12 queries) q))) (behind v c last)
 
-  pub asked_refused : (r.number ≡ 0 → ⊥) → r ≡ asked s (reading s) file index queries n
+  asked_refused : (r.number ≡ 0 → ⊥) → r ≡ asked s (reading s) file index queries n
   asked_refused h = sym (stays r last h) ∙ through
 
-  pub asked_passed : r.number ≡ 0 → ((consulted s (reading s) file index).number ≡ 0) × (last ≡ asked s (reading s) file index queries n)
+  asked_passed : r.number ≡ 0 → ((consulted s (reading s) file index).number ≡ 0) × (last ≡ asked s (reading s) file index queries n)
   asked_passed h = ((none_between (consulted s (reading s) file index) queries 12 (rw is at h)).0, rw h at through)
+
+-- WHAT THE CALLS HAND ON
+
+module _ (s file index : List ℕ) (v : Result ⊤ Refusal) (is : v ≡ judgement (checked (reading s) file)) where
+  put : between v index 16 ≡ judgement (after (checked (reading s) file) index 16)
+  put = ap (λ a. between a index 16) is ∙ between_judged (checked (reading s) file) index 16
+
+  pub check_err : (e : Refusal) → Err e ≡ between v index 16 → Err e ≡ judgement (consulted s (reading s) file index)
+  check_err e h =
+      let (n, q) = judged_err _ e (h ∙ put) in
+      ap Err (sym q) ∙ err_judged _ n ∙ ap judgement (check_refused s file index _ refl n)
+
+  pub check_ok : fine ≡ between v index 16 → ((checked (reading s) file).number ≡ 0) × (whole index ≡ true)
+  check_ok h = check_passed s file index _ refl (judged_ok _ (h ∙ put))
+
+module _ (s file index queries : List ℕ) (n : ℕ) (v : Result ⊤ Refusal) (is : v ≡ judgement (consulted s (reading s) file index)) where
+  put_queries : between v queries 12 ≡ judgement (after (consulted s (reading s) file index) queries 12)
+  put_queries = ap (λ a. between a queries 12) is ∙ between_judged (consulted s (reading s) file index) queries 12
+
+  pub asked_err : (e : Refusal) → Err e ≡ between v queries 12 → ((asked s (reading s) file index queries n).number ≡ 0 → ⊥) × (asked s (reading s) file index queries n ≡ e)
+  asked_err e h =
+      let (z, q) = judged_err _ e (h ∙ put_queries) in
+      let a = asked_refused s file index queries n _ refl z in
+      ((λ y. z (ap (λ (r : Refusal). r.number) a ∙ y)), sym a ∙ q)
+
+  pub asked_ok : fine ≡ between v queries 12
+      → ((consulted s (reading s) file index).number ≡ 0) × (room_for (count queries) n ≡ asked s (reading s) file index queries n)
+  asked_ok h = asked_passed s file index queries n _ refl (judged_ok _ (h ∙ put_queries))

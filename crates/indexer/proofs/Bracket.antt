@@ -1,54 +1,33 @@
--- The halves of a search over entries that rise: what comes before the key ends where what does not begins.
-use Prim.Native.Nat.{ℕ, ◌+◌, ◌≤◌, ◌<◌}
+-- In entries that rise, what comes before a key ends where what does not begins: so one position tells of all.
+use Prim.Native.Nat.{ℕ, ◌-◌, ◌≤◌, ◌<◌}
 use native.Mathlib.Decide.{dec_lt}
 use native.Mathlib.Omega.{arith}
 use mathlib.Core.Path.{◌≡◌, refl, sym, ◌∙◌}
 use mathlib.Core.Bool.{Bool, true, false, true≢false}
 use mathlib.Core.List.{List}
-use borrow.Author.Count.{below_none, below_more}
 use Rattle.entry.specs.declared.Entry.{Entry}
 use Rattle.entry.specs.Order.{Key, key_of, before}
 use Rattle.entry.proofs.Ordered.{before_transitive}
 use Rattle.indexer.specs.Inner.{Rises, Lower}
 
--- all before lo comes before the key, and nothing from hi on does
-pub record Bracket (s : List ℕ) (f : ℕ → Entry) (n : ℕ) (k : Key) (lo hi : ℕ) : Type 0 where
-  pub lo_le : lo ≤ hi
-  pub hi_le : hi ≤ n
-  pub below : (i : ℕ) → i < lo → before (key_of s (f i)) k ≡ true
-  pub above : (i : ℕ) → hi ≤ i → i < n → before (key_of s (f i)) k ≡ false
+module _ (s : List ℕ) (f : ℕ → Entry) (n : ℕ) (r : Rises s f n) (k : Key) where
+  -- what stands before one that comes before the key does too, and what stands behind one that does not neither
+  earlier : (i j : ℕ) → i < j → j < n → before (key_of s (f j)) k ≡ true → before (key_of s (f i)) k ≡ true
+  earlier i j p q e = before_transitive (key_of s (f i)) (key_of s (f j)) k (r i j p q) e
 
-pub bracket_start : (s : List ℕ) (f : ℕ → Entry) (n : ℕ) (k : Key) → Bracket s f n k 0 n
-bracket_start s f n k = record { lo_le = omega arith; hi_le = omega arith; below = below_none _; above = λ i p q. absurd (omega arith) }
+  later : (i j : ℕ) → i < j → j < n → before (key_of s (f i)) k ≡ false → (t : Bool) → before (key_of s (f j)) k ≡ t → t ≡ false
+  later i j p q e true h = absurd (true≢false (sym (earlier i j p q h) ∙ e))
+  later i j p q e false h = refl
 
-module _ {s : List ℕ} {f : ℕ → Entry} {n : ℕ} {k : Key} {lo hi : ℕ} (r : Rises s f n) (b : Bracket s f n k lo hi) (m : ℕ) (lm : lo ≤ m) (mh : m < hi) where
-  at : ℕ → Key
-  at i = key_of s (f i)
-
-  pub bracket_up : before (key_of s (f m)) k ≡ true → Bracket s f n k (m + 1) hi
-  unfolding at
-  bracket_up e = record {
-    lo_le = omega arith;
-    hi_le = b.hi_le;
-    below = below_more (λ i. before (key_of s (f i)) k ≡ true) m (λ i h. before_transitive (at i) (at m) k (r i m h (omega (arith, b.hi_le))) e) e;
-    above = b.above;
-  }
-
-  later : before (key_of s (f m)) k ≡ false → (i : ℕ) → m < i → i < n → (t : Bool) → before (key_of s (f i)) k ≡ t → t ≡ false
-  unfolding at
-  later e i p q true h = absurd (true≢false (sym (before_transitive (at m) (at i) k (r m i p q) h) ∙ e))
-  later e i p q false h = refl
-
-  pub bracket_down : before (key_of s (f m)) k ≡ false → Bracket s f n k lo m
-  bracket_down e = record {
-    lo_le = lm;
-    hi_le = omega (arith, b.hi_le);
-    below = b.below;
-    above = λ i p q. elim (dec_lt m i) [
-      | yes h ↦ later e i h q (before (key_of s (f i)) k) refl
-      | no h ↦ let z : i ≡ m = omega arith in rw z e
+  pub lower_at : (p : ℕ) → p ≤ n → (0 < p → before (key_of s (f (p - 1))) k ≡ true) → (p < n → before (key_of s (f p)) k ≡ false) → Lower s f n k p
+  lower_at p within last next = record {
+    within = within;
+    below = λ i h. elim (dec_lt i (p - 1)) [
+      | yes l ↦ earlier i (p - 1) l (omega arith) (last (omega arith))
+      | no l ↦ let z : i ≡ p - 1 = omega arith in rw z (last (omega arith))
+    ];
+    above = λ i h q. elim (dec_lt p i) [
+      | yes l ↦ later p i l q (next (omega arith)) (before (key_of s (f i)) k) refl
+      | no l ↦ let z : i ≡ p = omega arith in rw z (next (omega arith))
     ];
   }
-
-pub bracketed : {s : List ℕ} {f : ℕ → Entry} {n : ℕ} {k : Key} {lo hi : ℕ} → Bracket s f n k lo hi → hi ≤ lo → Lower s f n k lo
-bracketed b h = record { within = omega (arith, b.lo_le, b.hi_le); below = b.below; above = λ i p q. b.above i (omega arith) q }

@@ -7,7 +7,8 @@ use mathlib.Core.List.{List}
 use borrow.Author.Tests.{eq-eqb, eqb-true}
 use lib.Dec.{eqb}
 use lib.ListN.{length}
-use Rattle.refusal.specs.Table.{refused, done, index_differs}
+use Rattle.std.specs.Prelude.{Err}
+use Rattle.refusal.specs.Table.{refused, done, index_differs, judgement}
 use Rattle.file.specs.File as records
 use Rattle.grammar.specs.Reading.{reading}
 use Rattle.entry.specs.declared.Entry.{Entry}
@@ -20,6 +21,7 @@ use Rattle.index.specs.Answers.{differ, compared, consulted}
 use Rattle.index.proofs.Laws.{any_order}
 use Rattle.index.proofs.Answered.{by_compared}
 use Rattle.indexer.proofs.Answering.{index_length}
+use Rattle.indexer.proofs.Judged.{fine}
 
 module _ (s file index : List ℕ) (a : Accepted s file) (w : whole index ≡ true) (p : ℕ) (is : p ≡ differ (held index) (index_of s (records.held file))) where
   abbrev wanted : List Entry
@@ -36,16 +38,16 @@ module _ (s file index : List ℕ) (a : Accepted s file) (w : whole index ≡ tr
       let (rs, e, v, o) = accepted_order s file a in
       ap length (any_order s rs file e a) ∙ index_length s file a rs e
 
-  pub same_index : p ≡ length index / 16 → p ≡ length (entries (records.held file)) → refused done 0 0 ≡ consulted s (reading s) file index
+  pub same_index : p ≡ length index / 16 → p ≡ length (entries (records.held file)) → fine ≡ judgement (consulted s (reading s) file index)
   unfolding compared
   same_index h k =
       let g : eqb p (length (held index)) ≡ true = eq-eqb p (length (held index)) (h ∙ sym (held_length index)) in
       let l : eqb p (length wanted) ≡ true = eq-eqb p (length wanted) (k ∙ sym wanted_length) in
-      by_wanted done 0 (λ z. omega arith) (rw (← is, g, l))
+      ap judgement (by_wanted done 0 (λ z. omega arith) (rw (← is, g, l)))
 
-  pub other_index : (p ≡ length index / 16 → p ≡ length (entries (records.held file)) → ⊥) → refused index_differs p 0 ≡ consulted s (reading s) file index
+  pub other_index : (p ≡ length index / 16 → p ≡ length (entries (records.held file)) → ⊥) → Err (refused index_differs p 0) ≡ judgement (consulted s (reading s) file index)
   unfolding compared
-  other_index h = by_wanted index_differs p (λ z. omega arith) (rw (← is) (go (eqb p (length (held index))) (eqb p (length wanted)) refl refl))
+  other_index h = ap judgement (by_wanted index_differs p (λ z. omega arith) (rw (← is) (go (eqb p (length (held index))) (eqb p (length wanted)) refl refl)))
     where
       go : (b c : Bool) → eqb p (length (held index)) ≡ b → eqb p (length wanted) ≡ c
           → cond (b && c) (refused done 0 0) (refused index_differs p 0) ≡ refused index_differs p 0

@@ -8,9 +8,12 @@ use mathlib.Core.List.Permᴰ
 use mathlib.Core.List.{List, Memᴰ}
 use borrow.Author.Tests.{ne_eqb}
 use lib.ListN.{length, get_or}
+use Rattle.std.specs.Option.{unwrap_or}
+use Rattle.std.specs.Prelude.{Option, Some, None, Ok, Err}
 use Rattle.ordered.proofs.Members.{perm_mem, get_mem, mem_get}
 use Rattle.ordered.proofs.Sorting.{rising_all}
 use Rattle.refusal.specs.declared.Refusal.{Refusal}
+use Rattle.refusal.specs.Table.{judgement}
 use Rattle.record.specs.declared.Record.{Record}
 use Rattle.grammar.specs.Reading.{reading}
 use Rattle.entry.specs.declared.Entry.{Entry}
@@ -19,7 +22,6 @@ use Rattle.entry.specs.Order.{precedes}
 use Rattle.entry.proofs.Held.{held_length, held_at}
 use Rattle.entry.proofs.Ordered.{precedes_order}
 use Rattle.verdict.specs.Meaning.{Reads}
-use Rattle.index.specs.declared.Sought.{Sought}
 use Rattle.index.specs.Index.{entries, index_of}
 use Rattle.index.specs.Answers.{consulted, no_place, least, sought, found}
 use Rattle.index.proofs.Laws.{index_rises, index_permutes}
@@ -27,6 +29,7 @@ use Rattle.index.proofs.Within.{entry_below}
 use Rattle.index.proofs.Least.{least_low, least_of}
 use Rattle.index.proofs.Looked.{consulted_held}
 use Rattle.indexer.specs.Inner.{Rises, Seeks, Indexed}
+use Rattle.indexer.proofs.Judged.{fine, judged_err, judged_ok}
 
 -- AN INDEX THAT IS THE READING'S
 
@@ -60,7 +63,7 @@ module _ (s index : List ℕ) (rs : List Record) (e : Reads s rs) (t : held inde
     lowest = least s owner name (entries rs)
 
     -- what is found there is the least of the reading's
-    found_at : (a : ℕ) → Seeks s (entry_in index) (length index / 16) owner name (Sought.At a) → (lowest ≡ a) × (a < no_place)
+    found_at : (a : ℕ) → Seeks s (entry_in index) (length index / 16) owner name (Some a) → (lowest ≡ a) × (a < no_place)
     found_at a (k, p, b, q, none-less) =
         let m = stands k p in
         let low = least_low s owner name (entries rs) (entry_in index k) m b in
@@ -70,7 +73,7 @@ module _ (s index : List ℕ) (rs : List Record) (e : Reads s rs) (t : held inde
           omega arith,
         )
 
-    found_nowhere : Seeks s (entry_in index) (length index / 16) owner name Sought.Nowhere → lowest ≡ no_place
+    found_nowhere : Seeks s (entry_in index) (length index / 16) owner name None → lowest ≡ no_place
     found_nowhere none =
         ⊎_elim (λ z. z) (λ (f, n, c, z). let (j, l, y) = stood f n in absurd (none j l (rw y at c))) (least_of s owner name (entries rs))
 
@@ -81,33 +84,38 @@ module _ (s index : List ℕ) (i : Indexed s index) where
   indexed_climbs = let (rs, e, t) = i in climbs s index rs e t
 
   module _ (owner : ℕ) (name : List ℕ) where
-    pub sought_at : (a : ℕ) → Seeks s (entry_in index) (length index / 16) owner name (Sought.At a) → a ≡ sought s owner name (reading s)
+    sought_at : (a : ℕ) → Seeks s (entry_in index) (length index / 16) owner name (Some a) → a ≡ sought s owner name (reading s)
     sought_at a k = let (rs, e, t) = i in rw e (sym (found_at s index rs e t owner name a k).0)
 
-    pub sought_nowhere : Seeks s (entry_in index) (length index / 16) owner name Sought.Nowhere → no_place ≡ sought s owner name (reading s)
+    sought_nowhere : Seeks s (entry_in index) (length index / 16) owner name None → no_place ≡ sought s owner name (reading s)
     sought_nowhere k = let (rs, e, t) = i in rw e (sym (found_nowhere s index rs e t owner name k))
+
+    -- what is sought in it, or that it is nowhere, is the reading's
+    pub sought_in : (o : Option ℕ) → Seeks s (entry_in index) (length index / 16) owner name o → unwrap_or o no_place ≡ sought s owner name (reading s)
+    sought_in (Some a) k = sought_at a k
+    sought_in None k = sought_nowhere k
 
 -- THE ANSWER
 
-module _ (s file index : List ℕ) (r : Refusal) (is : r ≡ consulted s (reading s) file index) where
-  pub find_refused : (r.number ≡ 0 → ⊥) → (owner : ℕ) (name : List ℕ) → Sought.Refused r ≡ found s (reading s) file index owner name
+module _ (s file index : List ℕ) (owner : ℕ) (name : List ℕ) where
+  -- what checking the index refuses is refused
+  pub find_err : (e : Refusal) → Err e ≡ judgement (consulted s (reading s) file index) → Err e ≡ found s (reading s) file index owner name
   unfolding found
-  find_refused h owner name = rw (← is, ne_eqb r.number 0 h)
+  find_err e h = let (n, q) = judged_err _ e h in rw (ne_eqb _ _ n, q)
 
-  module _ (h : r.number ≡ 0) where
+  module _ (h : fine ≡ judgement (consulted s (reading s) file index)) where
     accepted : Indexed s index
-    accepted = consulted_held s file index (rw is at h)
+    accepted = consulted_held s file index (judged_ok _ h)
 
     pub index_climbs : Rises s (entry_in index) (length index / 16)
     index_climbs = indexed_climbs s index accepted
 
-    pub find_found : (owner : ℕ) (name : List ℕ) (o : Sought) → Seeks s (entry_in index) (length index / 16) owner name o → o ≡ found s (reading s) file index owner name
+    pub find_found : (o : Option ℕ) → Seeks s (entry_in index) (length index / 16) owner name o → Ok o ≡ found s (reading s) file index owner name
     unfolding found
-    find_found owner name (Sought.At a) k =
+    find_found (Some a) k =
         let (rs, e, t) = accepted in
         let (l, b) = found_at s index rs e t owner name a k in
-        rw (← is, h) (rw e (rw (l, ne_eqb a no_place (λ z. omega arith))))
-    find_found owner name Sought.Nowhere none =
+        rw (judged_ok _ h) (rw e (rw (l, ne_eqb a no_place (λ z. omega arith))))
+    find_found None none =
         let (rs, e, t) = accepted in
-        rw (← is, h) (rw e (rw (found_nowhere s index rs e t owner name none)))
-    find_found owner name (Sought.Refused f) none = absurd none
+        rw (judged_ok _ h) (rw e (rw (found_nowhere s index rs e t owner name none)))

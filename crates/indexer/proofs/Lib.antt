@@ -1,11 +1,10 @@
+pub mod Judged
 pub mod Filling
 pub mod Bracket
 pub mod Seeking
 pub mod Sameness
 pub mod Meetings
-pub mod Agreeing
 pub mod Deciding
-pub mod Passing
 pub mod Building
 pub mod Between
 pub mod Answering

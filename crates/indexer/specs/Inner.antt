@@ -1,10 +1,10 @@
 -- Inner machinery, which nobody has to believe: what the inner functions ensure. Here s is the text, f gives the entries of an index by
 -- their position, and es are the entries of the records.
-use Rattle.std.specs.Prelude.{ℕ, ◌+◌, ◌-◌, ◌≤◌, ◌<◌, min, ◌≡◌, ◌⊎◌, true, false, cond, ◌&&◌, ltb}
+use Rattle.std.specs.Prelude.{ℕ, ◌+◌, ◌-◌, ◌≤◌, ◌<◌, ◌≡◌, ◌⊎◌, Bool, true, false, cond, ◌||◌, ltb, length, Option, Some, None, Result, Ok, Err, ⊤}
 use mathlib.Core.List.{List, Memᴰ}
 use Rattle.ordered.specs.Counted.{up_to, total_to}
 use Rattle.refusal.specs.declared.Refusal.{Refusal}
-use Rattle.refusal.specs.Table.{wrong_record}
+use Rattle.refusal.specs.Table.{refused, not_whole, wrong_record}
 use Rattle.rowfile.specs.Rows as rows
 use Rattle.record.specs.declared.Record.{Record}
 use Rattle.grammar.specs.Reading.{reading}
@@ -12,15 +12,18 @@ use Rattle.verdict.specs.Meaning.{Reads}
 use Rattle.entry.specs.declared.Entry.{Entry}
 use Rattle.entry.specs.Entries.{count, held, entry_in}
 use Rattle.entry.specs.Order.{Key, key_of, before, precedes}
-use Rattle.index.specs.declared.Sought.{Sought}
 use Rattle.index.specs.Index.{index_of}
-use Rattle.index.specs.Answers.{or_else, in_rows, bears, sought}
+use Rattle.index.specs.Answers.{bears, sought}
 use Rattle.index.specs.Queries.{decoded, name_in}
-use Rattle.indexer.specs.declared.differ.Met.{Met}
 
--- an answer of number 1 to 13 stays; any other comes behind 13 for a file that is not in whole rows
-unfoldable pub between : Refusal → List ℕ → ℕ → Refusal
-between r file width = cond (ltb 0 r.number && ltb r.number wrong_record) r (or_else (in_rows width file) r)
+-- what comes before 14
+abbrev pub early : Result ⊤ Refusal → Bool
+early (Ok t) = false
+early (Err r) = ltb r.number wrong_record
+
+-- a refusal before 14 stays; anything else comes behind 13 for a file that is not in whole rows
+unfoldable pub between : Result ⊤ Refusal → List ℕ → ℕ → Result ⊤ Refusal
+between answer file width = cond (early answer || rows.whole width file) answer (Err (refused not_whole (length file) 0))
 
 -- each of the first n comes before all later ones of them
 abbrev pub Rises : List ℕ → (ℕ → Entry) → ℕ → Type 0
@@ -32,10 +35,6 @@ largest = 18446744073709551615
 
 abbrev pub len : Entry → ℕ
 len e = e.len
-
--- n is a sum, or no less, or the largest number
-abbrev pub Weighs : ℕ → ℕ → Type 0
-Weighs sum n = (sum ≤ n) ⊎ (n ≡ largest)
 
 -- the index rises over its first n entries; the next does not come after them, or with it their names have more than so many bytes
 pub record Rising (s index : List ℕ) (most n : ℕ) : Type 0 where
@@ -57,18 +56,20 @@ Stands f n e = (k : ℕ) × (k < n) × (f k ≡ e)
 abbrev pub Lacks : (ℕ → Entry) → ℕ → Entry → Type 0
 Lacks f n e = (k : ℕ) → k < n → f k ≡ e → ⊥
 
--- what is met after the entry e: the same where it stands there, and else its place is taken into account
-abbrev pub Meets : List ℕ → (ℕ → Entry) → ℕ → Entry → Met → Met → Type 0
-Meets s f n e met r =
-    (Stands f n e × (r ≡ met))
-    ⊎ (Lacks f n e × ((p : ℕ) × Lower s f n (key_of s e) p × (r.first ≡ min p met.first) × (r.all ≡ false)))
+-- e stands there, or it does not, and p is where it would
+abbrev pub Misses : List ℕ → (ℕ → Entry) → ℕ → Entry → Option ℕ → Type 0
+Misses s f n e None = Stands f n e
+Misses s f n e (Some p) = Lacks f n e × Lower s f n (key_of s e) p
 
--- what is met after all entries es
-pub record Meeting (s : List ℕ) (f : ℕ → Entry) (n : ℕ) (es : List Entry) (r : Met) : Type 0 where
-  pub within : r.first ≤ n
-  pub all : r.all ≡ true → (e : Entry) → Memᴰ e es → Stands f n e
-  pub each : (e : Entry) → Memᴰ e es → Stands f n e ⊎ ((k : ℕ) → k < r.first → precedes s (f k) e ≡ true)
-  pub stop : r.first < n → (e : Entry) × Memᴰ e es × Lacks f n e × Lower s f n (key_of s e) r.first
+-- p is the first place at which one of the entries es that do not stand there would
+pub record Gap (s : List ℕ) (f : ℕ → Entry) (n : ℕ) (es : List Entry) (p : ℕ) : Type 0 where
+  pub each : (e : Entry) → Memᴰ e es → Stands f n e ⊎ ((k : ℕ) → k < p → precedes s (f k) e ≡ true)
+  pub there : (e : Entry) × Memᴰ e es × Lacks f n e × Lower s f n (key_of s e) p
+
+-- all entries es stand there, or there is a first gap
+abbrev pub Meeting : List ℕ → (ℕ → Entry) → ℕ → List Entry → Option ℕ → Type 0
+Meeting s f n es None = (e : Entry) → Memᴰ e es → Stands f n e
+Meeting s f n es (Some p) = Gap s f n es p
 
 -- as many entries do not come after the entry before p as p says, and with the entry at p it is otherwise
 pub record Agrees (s : List ℕ) (f : ℕ → Entry) (n : ℕ) (es : List Entry) (p : ℕ) : Type 0 where
@@ -77,11 +78,10 @@ pub record Agrees (s : List ℕ) (f : ℕ → Entry) (n : ℕ) (es : List Entry)
   pub stop : p < n → up_to (precedes s) (f p) es ≡ p + 1 → ⊥
 
 -- the least `at` of those of the first n entries that have the owner and the name, or that there is none
-abbrev pub Seeks : List ℕ → (ℕ → Entry) → ℕ → ℕ → List ℕ → Sought → Type 0
-Seeks s f n owner name (Sought.At a) =
+abbrev pub Seeks : List ℕ → (ℕ → Entry) → ℕ → ℕ → List ℕ → Option ℕ → Type 0
+Seeks s f n owner name (Some a) =
     (k : ℕ) × (k < n) × (bears s owner name (f k) ≡ true) × ((f k).at ≡ a) × ((j : ℕ) → j < n → bears s owner name (f j) ≡ true → a ≤ (f j).at)
-Seeks s f n owner name Sought.Nowhere = (j : ℕ) → j < n → bears s owner name (f j) ≡ true → ⊥
-Seeks s f n owner name (Sought.Refused r) = ⊥
+Seeks s f n owner name None = (j : ℕ) → j < n → bears s owner name (f j) ≡ true → ⊥
 
 -- the index holds the entries of the text's reading, in its order
 abbrev pub Indexed : List ℕ → List ℕ → Type 0

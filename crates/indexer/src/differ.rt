@@ -1,178 +1,92 @@
 // Where an index from outside differs from the one that would be built of a record file: no second index is made. Each entry of the records
 // is looked for in the front of the index that rises; only where one is lacking, or one too many stands there, are the records counted again.
-ghost use Rattle.std.specs.Prelude.{◌≡◌, ◌&&◌, ◌⊎◌, ◌+◌, ◌/◌, ◌≤◌, min, ltb, length};
+ghost use Rattle.std.specs.Prelude.{◌≡◌, ◌/◌, ◌≤◌, min, length};
 ghost use Rattle.file.specs.File.{held as held_records};
 ghost use Rattle.entry.specs.Entries.{held, entry_in};
 ghost use Rattle.entry.specs.Order.{precedes};
 ghost use Rattle.index.specs.Index.{entries};
 ghost use Rattle.ordered.specs.Order.{Apart, sorted};
 ghost use Rattle.ordered.specs.Counted.{up_to, total};
-ghost use Rattle.index.specs.Answers.{same, differ};
-ghost use Rattle.indexer.specs.Inner.{Rises, largest, len, Weighs, Rising, Meets, Meeting, Agrees};
+ghost use Rattle.index.specs.Answers.{differ};
+ghost use Rattle.indexer.specs.Inner.{largest, len, Rising, Misses, Meeting, Agrees};
 
-use crate::fill::{entered_in, entry_of, is_entered};
-use crate::search::lower;
+use crate::fill::{Entries, entered_in};
+use crate::search::Front;
 use entry::Entry;
 use entry::order::precedes;
-use record::Record;
+use ordered::partition_point;
 
-// The largest number.
-const LARGEST: usize = 18446744073709551615;
-
-// The least position before which no entry of the records is lacking, and whether none is lacking at all.
-#[derive(Clone, Copy)]
-pub struct Met {
-    pub first: usize,
-    pub all: bool,
-}
-
-// A sum, or the largest number where that is less.
-fn sum(a: usize, b: usize) -> usize
-    ensures { (result ≤ a + b) × (result ≤ largest) × ((a + b ≤ result) ⊎ (result ≡ largest)) }
-{
-    if LARGEST - a < b {
-        return LARGEST;
-    }
-    a + b
-}
-
-// The bytes of the names of all entries of the records.
+// The bytes of the names of all entries of the records, or the largest number where that is less.
 fn named_in(records: &[u8]) -> usize
-    ensures { Weighs (total len (entries (held_records records.now))) result }
+    ensures { result ≡ min (total len (entries (held_records records.now))) largest }
 {
-    let count = records.len() / Record::SIZE;
-    let mut n = 0;
-    let mut i = 0;
-    while i < count {
-        if is_entered(records, i) {
-            let e = entry_of(records, i);
-            n = sum(n, e.len);
-        }
-        i += 1;
+    let mut n: usize = 0;
+    for e in Entries(records) {
+        n = n.saturating_add(e.len);
     }
     n
 }
 
-// How far each entry of the index comes before the next, while their names have no more than so many bytes: else an index from outside could have
-// the whole text compared with itself for each of its entries.
-fn rising(text: &[u8], index: &[u8], most: usize) -> usize
-    ensures { Rising text.now index.now most result }
+// The front of the index in which each entry comes before the next, while their names have no more than so many bytes: else an index from
+// outside could have the whole text compared with itself for each of its entries.
+fn rising<'a>(text: &'a [u8], index: &'a [u8], most: usize) -> Front<'a>
+    ensures of { (result.text.now ≡ text.now) × (result.index.now ≡ index.now) }
+    ensures stops { Rising text.now index.now most result.n }
 {
     let count = index.len() / Entry::SIZE;
-    if count == 0 {
-        return 0;
-    }
-    let mut named = 0;
-    let mut n = 1;
-    while n < count {
+    let mut named: usize = 0;
+    for n in 1..count {
         let e = entry::read(index, n);
-        named = sum(named, e.len);
-        if most < named {
-            return n;
+        named = named.saturating_add(e.len);
+        if most < named || !precedes(text, entry::read(index, n - 1), e) {
+            return Front { text, index, n };
         }
-        if !precedes(text, entry::read(index, n - 1), e) {
-            return n;
-        }
-        n += 1;
     }
-    n
-}
-
-// Whether the first n of the index have the entry at the position.
-fn stands(index: &[u8], n: usize, position: usize, e: Entry) -> bool
-    requires { n ≤ length index.now / 16 }
-    ensures { result ≡ (ltb position n && same (entry_in index.now position) e) }
-{
-    if n <= position {
-        return false;
-    }
-    let f = entry::read(index, position);
-    (f.owner == e.owner) & (f.name == e.name) & (f.len == e.len) & (f.at == e.at)
-}
-
-// The lesser of two numbers.
-fn least(a: usize, b: usize) -> usize
-    ensures { result ≡ min a b }
-{
-    if a < b { a } else { b }
-}
-
-// What is met after one more entry, among the first n of the index, over which it rises.
-fn met_after(met: Met, text: &[u8], index: &[u8], n: usize, e: Entry) -> Met
-    requires { (n ≤ length index.now / 16) × Rises text.now (entry_in index.now) n }
-    ensures { Meets text.now (entry_in index.now) n e met result }
-{
-    let p = lower(
+    Front {
         text,
         index,
-        n,
-        e.owner,
-        lookup::part(text, e.name, e.len),
-        e.at,
-    );
-    if stands(index, n, p, e) {
-        return met;
-    }
-    Met {
-        first: least(p, met.first),
-        all: false,
+        n: count,
     }
 }
 
-// Looks for each entry of the records among the first n of the index.
-fn meet(text: &[u8], records: &[u8], index: &[u8], n: usize) -> Met
-    requires { (n ≤ length index.now / 16) × Rises text.now (entry_in index.now) n }
-    ensures { Meeting text.now (entry_in index.now) n (entries (held_records records.now)) result }
+// Where the entry would stand in the front, if it does not stand there.
+fn missing(front: &Front, e: Entry) -> Option<usize>
+    ensures { Misses front.now.text.now (entry_in front.now.index.now) front.now.n e result }
 {
-    let count = records.len() / Record::SIZE;
-    let mut met = Met {
-        first: n,
-        all: true,
-    };
-    let mut i = 0;
-    while i < count {
-        if is_entered(records, i) {
-            met = met_after(met, text, index, n, entry_of(records, i));
-        }
-        i += 1;
+    let p = front.lower(e.owner, lookup::part(front.text, e.name, e.len), e.at);
+    if p < front.n && entry::read(front.index, p) == e {
+        return None;
     }
-    met
+    Some(p)
+}
+
+// The least position in the front before which an entry of the records is lacking, if any is lacking.
+fn meet(front: &Front, records: &[u8]) -> Option<usize>
+    ensures { Meeting front.now.text.now (entry_in front.now.index.now) front.now.n (entries (held_records records.now)) result }
+{
+    let mut first = None;
+    for e in Entries(records) {
+        if let Some(p) = missing(front, e) {
+            first = Some(p.min(first.unwrap_or(p)));
+        }
+    }
+    first
 }
 
 // How many entries of the records do not come after the entry.
 fn up_to(text: &[u8], records: &[u8], e: Entry) -> usize
     ensures { result ≡ up_to (precedes text.now) e (entries (held_records records.now)) }
 {
-    let count = records.len() / Record::SIZE;
-    let mut n = 0;
-    let mut i = 0;
-    while i < count {
-        if is_entered(records, i) {
-            if !precedes(text, e, entry_of(records, i)) {
-                n += 1;
-            }
-        }
-        i += 1;
-    }
-    n
+    Entries(records).filter(|f| !precedes(text, e, *f)).count()
 }
 
-// How many of the first n entries of the index are those that would be built, where no entry of the records is lacking before them.
-fn agreed(text: &[u8], records: &[u8], index: &[u8], n: usize) -> usize
-    requires { n ≤ length index.now / 16 }
-    ensures { Agrees text.now (entry_in index.now) n (entries (held_records records.now)) result }
+// How many of the first n entries of the front are those that would be built, where no entry of the records is lacking before them.
+fn agreed(front: &Front, records: &[u8], n: usize) -> usize
+    requires { n ≤ front.now.n }
+    ensures { Agrees front.now.text.now (entry_in front.now.index.now) n (entries (held_records records.now)) result }
 {
-    let mut low = 0;
-    let mut high = n;
-    while low < high {
-        let middle = low + (high - low) / 2;
-        if up_to(text, records, entry::read(index, middle)) == middle + 1 {
-            low = middle + 1;
-        } else {
-            high = middle;
-        }
-    }
-    low
+    let Front { text, index, .. } = *front;
+    partition_point(n, |i| up_to(text, records, entry::read(index, i)) == i + 1)
 }
 
 // The first position at which the index differs from the one that would be built; where one begins the other, the shorter one's count.
@@ -180,13 +94,9 @@ pub(crate) fn differ(text: &[u8], records: &[u8], index: &[u8]) -> usize
     requires { Apart (precedes text.now) (entries (held_records records.now)) }
     ensures { result ≡ differ (held index.now) (sorted (precedes text.now) (entries (held_records records.now))) }
 {
-    let n = rising(text, index, named_in(records));
-    let met = meet(text, records, index, n);
-    if met.all {
-        if n == entered_in(records) {
-            return n;
-        }
+    let front = rising(text, index, named_in(records));
+    match meet(&front, records) {
+        None if front.n == entered_in(records) => front.n,
+        first => agreed(&front, records, first.unwrap_or(front.n)),
     }
-    let first = met.first;
-    agreed(text, records, index, first)
 }

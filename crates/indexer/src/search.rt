@@ -1,4 +1,4 @@
-// Finding a position in an index by bisection.
+// Finding a position by bisection in the front of an index that rises.
 ghost use Rattle.std.specs.Prelude.{◌/◌, ◌≤◌, length};
 ghost use Rattle.entry.specs.Order.{key};
 ghost use Rattle.entry.specs.Entries.{entry_in};
@@ -6,50 +6,39 @@ ghost use Rattle.indexer.specs.Inner.{Rises, Lower, Seeks};
 
 use entry::Entry;
 use entry::order::{alike, before};
-use index::Sought;
+use ordered::partition_point;
 
-// The first of the first n positions, over which the index rises, whose entry does not come before what has the owner, the name and the
-// `at`; or n.
-pub(crate) fn lower(
-    text: &[u8],
-    index: &[u8],
-    n: usize,
-    owner: usize,
-    name: &[u8],
-    at: usize,
-) -> usize
-    requires { (n ≤ length index.now / 16) × Rises text.now (entry_in index.now) n }
-    ensures { Lower text.now (entry_in index.now) n (key owner name.now at) result }
-{
-    let mut low = 0;
-    let mut high = n;
-    while low < high {
-        let middle = low + (high - low) / 2;
-        if before(text, entry::read(index, middle), owner, name, at) {
-            low = middle + 1;
-        } else {
-            high = middle;
-        }
-    }
-    low
+// The first n entries of an index, each of which comes before the next.
+#[derive(Clone, Copy)]
+pub(crate) struct Front<'a> {
+    pub(crate) text: &'a [u8],
+    pub(crate) index: &'a [u8],
+    pub(crate) n: usize,
+    ghost within: { n ≤ length index.now / 16 },
+    ghost rises: { Rises text.now (entry_in index.now) n },
 }
 
-// The `at` of the first entry with the owner and the name in an index that rises.
-pub(crate) fn seek(text: &[u8], index: &[u8], owner: usize, name: &[u8]) -> Sought
-    requires { Rises text.now (entry_in index.now) (length index.now / 16) }
-    ensures { Seeks text.now (entry_in index.now) (length index.now / 16) owner name.now result }
-{
-    let n = index.len() / Entry::SIZE;
-    let p = lower(text, index, n, owner, name, 0);
-    if n <= p {
-        return Sought::Nowhere;
+impl<'a> Front<'a> {
+    // The first position whose entry does not come before what has the owner, the name and the `at`; or n.
+    pub(crate) fn lower(&self, owner: usize, name: &[u8], at: usize) -> usize
+        ensures { Lower self.now.text.now (entry_in self.now.index.now) self.now.n (key owner name.now at) result }
+    {
+        let Front { text, index, n } = *self;
+        partition_point(n, |i| before(text, entry::read(index, i), owner, name, at))
     }
-    let e = entry::read(index, p);
-    if e.owner != owner {
-        return Sought::Nowhere;
+
+    // The `at` of the first entry with the owner and the name.
+    pub(crate) fn seek(&self, owner: usize, name: &[u8]) -> Option<usize>
+        ensures { Seeks self.now.text.now (entry_in self.now.index.now) self.now.n owner name.now result }
+    {
+        let p = self.lower(owner, name, 0);
+        if self.n <= p {
+            return None;
+        }
+        let e = entry::read(self.index, p);
+        if e.owner != owner || !alike(lookup::part(self.text, e.name, e.len), name) {
+            return None;
+        }
+        Some(e.at)
     }
-    if !alike(lookup::part(text, e.name, e.len), name) {
-        return Sought::Nowhere;
-    }
-    Sought::At(e.at)
 }

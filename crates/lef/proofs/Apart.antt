@@ -8,7 +8,7 @@ use lib.ListN.{length, get_elem?}
 use Rattle.record.specs.declared.Record.{Record}
 use Rattle.file.specs.File.{held}
 use Rattle.file.proofs.Held.{held_length}
-use Rattle.lookup.specs.declared.InForce.{InForce}
+use Rattle.std.specs.Prelude.{Some, Ok}
 use Rattle.lookup.specs.Force.{no_index, in_force}
 use Rattle.lookup.proofs.Answers.{at_is}
 
@@ -20,7 +20,7 @@ below (s ∷ rs) (suc i) r e =
     let l = below rs i r e in
     omega arith
 
-pub not_none : (file : List ℕ) (owner kind code i : ℕ) → length file < 2 ^ 64 → in_force file owner kind code ≡ InForce.At i → i < no_index
+pub not_none : (file : List ℕ) (owner kind code i : ℕ) → length file < 2 ^ 64 → in_force file owner kind code ≡ Ok (Some i) → i < no_index
 not_none file owner kind code i h e =
     let found = at_is file owner kind code i e in
     let l = below (held file) i found.0 found.1.here in

@@ -2,3 +2,4 @@ mod Wide
 pub mod Apart
 pub mod Named
 mod Tokens
+mod Numbered

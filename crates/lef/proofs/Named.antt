@@ -5,7 +5,8 @@ use mathlib.Core.Bool.{Bool, true, false, cond}
 use mathlib.Core.List.{List, []}
 use lib.Dec.{leb}
 use lib.ListN.{length, take, drop}
-use Rattle.file.specs.declared.Found.{Found}
+use Rattle.std.specs.Prelude.{Option, Some, None}
+use Rattle.record.specs.declared.Record.{Record}
 use Rattle.file.specs.File.{record_at}
 use Rattle.lookup.specs.Name.{part, name_of, name_at}
 use Rattle.lef.specs.declared.told.Span.{Span}
@@ -23,9 +24,9 @@ inside_is text start len = go (leb (start + len) (length text))
     go true = refl
     go false = refl
 
-found : (text : List ℕ) (f : Found) → bytes_in text (span_of text f) ≡ name_of text f
-found text (Found.At r) = inside_is text r.name r.len
-found text Found.Past = refl
+found : (text : List ℕ) (f : Option Record) → bytes_in text (span_of text f) ≡ name_of text f
+found text (Some r) = inside_is text r.name r.len
+found text None = refl
 
 pub named : (text file : List ℕ) (index : ℕ) → take (name_span text file index).len (drop (name_span text file index).start text) ≡ name_at text file index
 named text file index = found text (record_at file index)

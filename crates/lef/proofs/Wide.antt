@@ -10,13 +10,14 @@ use borrow.Author.Tests.{ne_eqb, leb-false}
 use lib.Dec.{leb}
 use lib.ListN.{length, get_elem?}
 use Rattle.little.specs.Little.{Bytes}
+use Rattle.refusal.specs.declared.Refusal.{Refusal}
 use Rattle.refusal.specs.Table.{refused, not_whole}
 use Rattle.record.specs.declared.Record.{Record}
 use Rattle.record.specs.Kinds.{SITE}
 use Rattle.file.specs.File.{held, whole}
 use Rattle.file.proofs.Fields.{kind_small}
 use Rattle.file.proofs.Held.{held_is}
-use Rattle.lookup.specs.declared.InForce.{InForce}
+use Rattle.std.specs.Prelude.{None, Ok, Err, Option, Result}
 use Rattle.lookup.specs.Force.{all_count, same_option, asked, latest, told, in_force}
 use Rattle.lookup.proofs.Force.{no_latest}
 
@@ -37,15 +38,15 @@ as_none owner kind code h r = rw (same code r.code h)
 
 module _ (file : List ℕ) (owner kind code : ℕ) where
   -- an answer, where the file is whole
-  abbrev answer : InForce → InForce
-  answer a = cond (whole file) a (InForce.Refused (refused not_whole (length file) 0))
+  abbrev answer : Option ℕ → Result (Option ℕ) Refusal
+  answer a = cond (whole file) (Ok a) (Err (refused not_whole (length file) 0))
 
   kind_or : Bytes file → (t : Bool) → leb kind 255 ≡ t → in_force file owner (cond t kind SITE) code ≡ in_force file owner kind code
   unfolding in_force
   kind_or b true e = refl
   kind_or b false e = rw (no_latest (asked owner kind code) (held file) (not_asked file b owner kind code (leb-false kind 255 e))) (go (all_count kind))
     where
-      go : (all : Bool) → answer InForce.None ≡ answer (cond all InForce.None InForce.None)
+      go : (all : Bool) → answer None ≡ answer (cond all None None)
       go true = refl
       go false = refl
 
@@ -53,7 +54,7 @@ module _ (file : List ℕ) (owner kind code : ℕ) where
   unfolding in_force
   code_or true e = refl
   code_or false e =
-      ap (λ p. answer (cond (all_count kind) InForce.None (told (latest p (held file))))) (λ i r. as_none owner kind code (leb-false code 255 e) r i)
+      ap (λ p. answer (cond (all_count kind) None (told (latest p (held file))))) (λ i r. as_none owner kind code (leb-false code 255 e) r i)
 
 -- what is asked for by bytes is what is asked for
 pub as_bytes : (file : List ℕ) (owner kind code : ℕ) → Bytes file

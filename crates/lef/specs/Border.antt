@@ -1,10 +1,13 @@
 -- THE NUMBERS THAT CROSS THE BORDER: what each call hands back for the bytes and numbers that it is given. The number of the refusal is
 -- returned; every other number is written behind its pointer, 0 where it has no meaning, but an index is `no_index` there.
-use Rattle.std.specs.Prelude.{ℕ, ◌+◌, cond, List, leb, length}
+use Rattle.std.specs.Prelude.{ℕ, ◌+◌, cond, List, leb, length, Option, Some, None, Result, Ok, Err, ⊤}
 use Rattle.refusal.specs.declared.Refusal.{Refusal}
-use Rattle.file.specs.declared.Found.{Found}
+use Rattle.refusal.specs.Table.{refused, done}
+use Rattle.record.specs.declared.Record.{Record}
 use Rattle.file.specs.File.{record_at}
-use Rattle.lexer.specs.Numbers.{Numbers as Tokens}
+use Rattle.lexer.specs.declared.Token.{Token}
+use Rattle.lexer.specs.Kinds.{number_of}
+use Rattle.lexer.specs.Numbers.{Numbers as Tokens, stands_as, refused_as}
 use Rattle.lexer.specs.Answer as T
 use Rattle.lexer.specs.Answer.{first_token}
 use Rattle.lookup.specs.Force as F
@@ -20,6 +23,16 @@ use Rattle.index.specs.Answers as I
 use Rattle.index.specs.Queries as Q
 use Rattle.index.specs.Many as M
 use Rattle.lef.specs.declared.told.Span.{Span}
+
+-- what comes back of an answer: of what is done number 0, and the count as the place
+abbrev pub numbered : Result ℕ Refusal → Refusal
+numbered (Ok n) = refused done n 0
+numbered (Err r) = r
+
+-- a check writes nothing
+abbrev pub unwritten : Result ⊤ Refusal → Result ℕ Refusal
+unwritten (Ok u) = Ok 0
+unwritten (Err r) = Err r
 
 -- `lef_read`: number, place and line, and the record buffer as it is left
 abbrev pub read_numbers : List ℕ → List ℕ → Refusal
@@ -43,6 +56,11 @@ write_buffer text records out = W.filled text records out
 abbrev pub token_numbers : List ℕ → ℕ → Tokens
 token_numbers text place = T.numbers text (first_token text place)
 
+-- the same of the token that is held first, of which the end is one of kind 0
+abbrev pub held_numbers : Result Token Refusal → Tokens
+held_numbers (Ok t) = stands_as 0 (number_of t.kind) t.start t.stop
+held_numbers (Err r) = refused_as r
+
 -- `lef_in_force`: refusal, place, line and index; no index is `no_index`, the largest number
 abbrev pub force_numbers : List ℕ → ℕ → ℕ → ℕ → F.Numbers
 force_numbers records owner kind code = F.numbers (in_force records owner kind code)
@@ -60,9 +78,9 @@ unfoldable pub inside : ℕ → ℕ → ℕ → Span
 inside size start len = cond (leb (start + len) size) (span start len) (span 0 0)
 
 -- of the record that was found, and 0 and 0 where there is none
-abbrev pub span_of : List ℕ → Found → Span
-span_of text (Found.At r) = inside (length text) r.name r.len
-span_of text Found.Past = span 0 0
+abbrev pub span_of : List ℕ → Option Record → Span
+span_of text (Some r) = inside (length text) r.name r.len
+span_of text None = span 0 0
 
 abbrev pub name_span : List ℕ → List ℕ → ℕ → Span
 name_span text records index = span_of text (record_at records index)

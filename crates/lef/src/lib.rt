@@ -3,24 +3,21 @@
 #![tactic(auto)]
 
 ghost use Rattle.std.specs.Prelude.{◌≡◌};
-ghost use Rattle.lef.specs.Border.{read_numbers, read_buffer, check_numbers, write_numbers, write_buffer, token_numbers, force_numbers, owners_numbers, name_span, index_numbers, index_buffer, index_check_numbers, find_numbers, find_many_numbers, find_many_buffer};
+ghost use Rattle.lef.specs.Border.{read_numbers, read_buffer, check_numbers, write_numbers, write_buffer, token_numbers, force_numbers, owners_numbers, held_numbers, name_span, index_numbers, index_buffer, index_check_numbers, find_numbers, find_many_numbers, find_many_buffer};
 
-use crate::told::{byte_or, leave, span_of, tell};
-use index::Sought;
-use lexer::Screened;
-use lookup::{Chain, InForce};
+use crate::told::{byte_or, leave, nothing_written, span_of, tell};
+use lexer::{Kind, Token};
 use parser::take;
-use parser::take::Taken;
 use record::kind;
 use refusal::Refusal;
 
 mod told;
 
 // What stands for no index: where no record is in force, and on a refusal.
-const NONE: u64 = 18446744073709551615;
+const NONE: usize = 18446744073709551615;
 
 // What stands for no `at`: where nothing is found, and on a refusal.
-const NOWHERE: u64 = 4294967295;
+const NOWHERE: usize = 4294967295;
 
 // The records of a text, into the buffer.
 pub fn lef_read(text: &[u8], records: &mut [u8], place: &mut u64, line: &mut u64) -> u64
@@ -38,7 +35,7 @@ pub fn lef_check(text: &[u8], records: &[u8], place: &mut u64, line: &mut u64) -
     ensures place_after { place.new ≡ (check_numbers text.now records.now).place }
     ensures line_after { line.new ≡ (check_numbers text.now records.now).line }
 {
-    tell(checker::check(text, records), place, line)
+    tell(nothing_written(checker::check(text, records)), place, line)
 }
 
 // The records of a file that is accepted, as canonical text, into the buffer.
@@ -74,21 +71,24 @@ pub fn lef_token(
     ensures place_after { place.new ≡ (token_numbers text.now from).place }
     ensures line_after { line.new ≡ (token_numbers text.now from).line }
 {
-    let screened = lexer::screen(text);
-    if let Screened::Refused(refusal) = screened {
-        leave(0, 0, 0, kind, start, stop);
-        return tell(refusal, place, line);
-    }
-    match take::token_from(&text, from as usize, 1) {
-        Taken::Next(t) => {
+    match held_first(text, from as usize) {
+        Ok(t) => {
             leave(t.kind, t.start, t.stop, kind, start, stop);
-            tell(Refusal::done(0), place, line)
+            tell(Ok(0), place, line)
         }
-        Taken::Refused(refusal) => {
-            leave(0, 0, 0, kind, start, stop);
-            tell(refusal, place, line)
+        Err(refusal) => {
+            leave(Kind::End, 0, 0, kind, start, stop);
+            tell(Err(refusal), place, line)
         }
     }
+}
+
+// The token that is held first where a text is read from a place on; the end is one of no kind.
+fn held_first(text: &[u8], place: usize) -> Result<Token, Refusal>
+    ensures { held_numbers result ≡ token_numbers text.now place }
+{
+    lexer::screen(text)?;
+    take::token_from(&text, place, 1)
 }
 
 // The index of the record in force for an owner and a kind, and for an option of a LAYER a code. A kind that is no byte is held by no
@@ -113,17 +113,13 @@ pub fn lef_in_force(
         byte_or(kind, kind::SITE),
         byte_or(code, 0),
     ) {
-        InForce::At(i) => {
-            *index = i as u64;
-            tell(Refusal::done(0), place, line)
+        Ok(found) => {
+            *index = found.unwrap_or(NONE) as u64;
+            tell(Ok(0), place, line)
         }
-        InForce::None => {
-            *index = NONE;
-            tell(Refusal::done(0), place, line)
-        }
-        InForce::Refused(refusal) => {
-            *index = NONE;
-            tell(refusal, place, line)
+        Err(refusal) => {
+            *index = NONE as u64;
+            tell(Err(refusal), place, line)
         }
     }
 }
@@ -142,13 +138,13 @@ pub fn lef_owners(
     ensures line_after { line.new ≡ (owners_numbers records.now index).line }
 {
     match lookup::owners(records, index as usize) {
-        Chain::Count(n) => {
+        Ok(n) => {
             *count = n as u64;
-            tell(Refusal::done(0), place, line)
+            tell(Ok(0), place, line)
         }
-        Chain::Refused(refusal) => {
+        Err(refusal) => {
             *count = 0;
-            tell(refusal, place, line)
+            tell(Err(refusal), place, line)
         }
     }
 }
@@ -193,7 +189,8 @@ pub fn lef_index_check(
     ensures place_after { place.new ≡ (index_check_numbers text.now records.now index.now).place }
     ensures line_after { line.new ≡ (index_check_numbers text.now records.now index.now).line }
 {
-    tell(indexer::check(text, records, index), place, line)
+    let answer = indexer::check(text, records, index);
+    tell(nothing_written(answer), place, line)
 }
 
 // The `at` of the first SITE block, MACRO or PIN of an owner and a name.
@@ -213,17 +210,13 @@ pub fn lef_find(
     ensures line_after { line.new ≡ (find_numbers text.now records.now index.now owner name.now).line }
 {
     match indexer::find(text, records, index, owner as usize, name) {
-        Sought::At(a) => {
-            *at = a as u64;
-            tell(Refusal::done(0), place, line)
+        Ok(found) => {
+            *at = found.unwrap_or(NOWHERE) as u64;
+            tell(Ok(0), place, line)
         }
-        Sought::Nowhere => {
-            *at = NOWHERE;
-            tell(Refusal::done(0), place, line)
-        }
-        Sought::Refused(refusal) => {
-            *at = NOWHERE;
-            tell(refusal, place, line)
+        Err(refusal) => {
+            *at = NOWHERE as u64;
+            tell(Err(refusal), place, line)
         }
     }
 }

@@ -5,12 +5,11 @@ use mathlib.Core.Bool.{Bool, true, false, cond}
 use mathlib.Core.List.{List}
 use native.Mathlib.Omega.{arith}
 use lib.Dec.{ltb}
+use Rattle.std.specs.Prelude.{Result, Ok, Err, ⊤}
 use lib.ListN.{length}
 use Rattle.refusal.specs.declared.Refusal.{Refusal}
 use Rattle.refusal.specs.Table.{refused, too_long, not_ascii, no_token}
 use Rattle.lexer.specs.declared.Lexed.{Lexed}
-use Rattle.lexer.specs.declared.Screened.{Screened}
-use Rattle.lexer.specs.declared.Answer.{Answer}
 use Rattle.lexer.specs.Lex.{lex_from}
 use Rattle.lexer.specs.Lines.{newlines}
 use Rattle.lexer.specs.Screen.{limit, first_high, screened}
@@ -26,13 +25,13 @@ pub record NoToken (s : List ℕ) (from : ℕ) (r : Refusal) : Type 0 where
   pub line : r.line ≡ 1 + newlines s from r.place
 
 low : (a b : Bool) (p : ℕ) (r : Refusal)
-    → cond a (Screened.Refused (refused too_long 0 0)) (cond b (Screened.Refused (refused not_ascii p 0)) Screened.Clear) ≡ Screened.Refused r → r.number ≤ not_ascii
+    → ◌≡◌ {A = Result ⊤ Refusal} (cond a (Err (refused too_long 0 0)) (cond b (Err (refused not_ascii p 0)) (Ok tt))) (Err r) → r.number ≤ not_ascii
 low true b p r h = let e : refused too_long 0 0 ≡ r = cc in omega (arith, ap (λ x. x.number) e)
 low false true p r h = let e : refused not_ascii p 0 ≡ r = cc in omega (arith, ap (λ x. x.number) e)
 low false false p r h = absurd (let z : ◌≡◌ {A = ℕ} 0 1 = cc in omega arith)
 
 module _ (s : List ℕ) (place : ℕ) (r : Refusal) where
-  bad : screened s ≡ Screened.Clear → (a : Lexed) → lex_from s place 1 ≡ a → told a ≡ Answer.Refused r → NoToken s place r
+  bad : screened s ≡ Ok tt → (a : Lexed) → lex_from s place 1 ≡ a → told a ≡ Err r → NoToken s place r
   bad c (Lexed.Found t) q h = absurd (let z : ◌≡◌ {A = ℕ} 0 1 = cc in omega arith)
   bad c (Lexed.End n) q h = absurd (let z : ◌≡◌ {A = ℕ} 0 1 = cc in omega arith)
   bad c (Lexed.Bad i n) q h =
@@ -41,12 +40,12 @@ module _ (s : List ℕ) (place : ℕ) (r : Refusal) where
       let w = rw q at (within_first s place 1) in
       rw (← e) (record { after = w.0; inside = w.1; line = rw q at (first_line s place 1 (omega arith)) })
 
-  screen_said : (c : Screened) → screened s ≡ c → first_token s place ≡ Answer.Refused r → r.number ≡ no_token → NoToken s place r
+  screen_said : (c : Result ⊤ Refusal) → screened s ≡ c → first_token s place ≡ Err r → r.number ≡ no_token → NoToken s place r
   unfolding first_token screened
-  screen_said Screened.Clear e h k = bad e (lex_from s place 1) refl (rw (e, first_token) at h)
-  screen_said (Screened.Refused x) e h k =
+  screen_said (Ok tt) e h k = bad e (lex_from s place 1) refl (rw (e, first_token) at h)
+  screen_said (Err x) e h k =
       let q : x ≡ r = cc (rw (e, first_token) at h) in
       absurd (omega (arith, ap (λ y. y.number) q, low (ltb limit (length s)) (ltb (first_high s) (length s)) (first_high s) x e))
 
-  pub no_token_lem : first_token s place ≡ Answer.Refused r → r.number ≡ no_token → NoToken s place r
+  pub no_token_lem : first_token s place ≡ Err r → r.number ≡ no_token → NoToken s place r
   no_token_lem = screen_said (screened s) refl

@@ -1,12 +1,13 @@
 -- The eight bytes from a place of a text on, and a rule on every byte, proved by one test that computes.
 use Prim.Native.Nat.{ℕ, zero, suc, ◌+◌, ◌*◌, ◌≤◌, ◌<◌}
-use mathlib.Core.Path.{◌≡◌, refl}
+use mathlib.Core.Path.{◌≡◌, refl, ap, subst}
 use mathlib.Core.Bool.{Bool, true, false, ◌&&◌}
 use mathlib.Core.List.{List}
 use native.Mathlib.Omega.{arith}
 use borrow.Author.Tests.{eqb-true, eqb-false, ltb-true}
 use lib.Dec.{eqb, ltb}
 use lib.ListN.{length, take, drop, get_or}
+use Rattle.std.proofs.lemmas.List.{take_all}
 use Rattle.lexer.specs.Eight.{each, plain, Bytes}
 use Rattle.lexer.proofs.Runs.{step, both}
 
@@ -19,6 +20,29 @@ digit n s i j e h = rw (step s i h, e)
 pub bytes : (s : List ℕ) → ((k : ℕ) → get_or s k 0 < 256) → (n i : ℕ) → i + n ≤ length s → Bytes (take n (drop i s))
 bytes s f zero i h = tt
 bytes s f (suc n) i h = rw (step s i (omega arith)) (f i, bytes s f n (i + 1) (omega arith))
+
+-- eight bytes as one number are the sum of the digits, each at its place
+pub sum : (l : List ℕ) → length l ≡ 8
+    → each plain l ≡ get_or l 0 0 + 256 * get_or l 1 0 + 65536 * get_or l 2 0 + 16777216 * get_or l 3 0
+    + 4294967296 * get_or l 4 0 + 1099511627776 * get_or l 5 0 + 281474976710656 * get_or l 6 0 + 72057594037927936 * get_or l 7 0
+unfolding each
+sum l h =
+    omega (
+      arith,
+      ap (each plain) (take_all 8 l (omega arith)),
+      digit 7 l 0 1 refl (omega arith),
+      digit 6 l 1 2 refl (omega arith),
+      digit 5 l 2 3 refl (omega arith),
+      digit 4 l 3 4 refl (omega arith),
+      digit 3 l 4 5 refl (omega arith),
+      digit 2 l 5 6 refl (omega arith),
+      digit 1 l 6 7 refl (omega arith),
+      digit 0 l 7 8 refl (omega arith),
+    )
+
+-- the bytes of eight bytes are bytes
+pub all_bytes : (l : List ℕ) → length l ≡ 8 → ((k : ℕ) → get_or l k 0 < 256) → Bytes l
+all_bytes l h f = subst Bytes (take_all 8 l (omega arith)) (bytes l f 8 0 (omega arith))
 
 -- the test passes at each number below n
 abbrev pub below : (ℕ → Bool) → ℕ → Bool

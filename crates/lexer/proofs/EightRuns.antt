@@ -58,7 +58,7 @@ clear p (b ∷ l) h = go (p b) h (clear p l)
     go false e r = absurd (omega arith)
 
 -- the run over the first bytes, and from a byte of the run on
-front : (p : ℕ → Bool) (k : ℕ) (l : List ℕ) → run p (take k l) ≡ min k (run p l)
+pub front : (p : ℕ → Bool) (k : ℕ) (l : List ℕ) → run p (take k l) ≡ min k (run p l)
 unfolding run
 front p zero l = omega arith
 front p (suc k) [] = omega arith
@@ -68,7 +68,7 @@ front p (suc k) (b ∷ l) = go (p b) (front p k l)
     go true e = omega arith
     go false e = omega arith
 
-further : (p : ℕ → Bool) (k : ℕ) (l : List ℕ) → k ≤ run p l → k + run p (drop k l) ≡ run p l
+pub further : (p : ℕ → Bool) (k : ℕ) (l : List ℕ) → k ≤ run p l → k + run p (drop k l) ≡ run p l
 unfolding run
 further p zero l h = omega arith
 further p (suc k) [] h = absurd (omega arith)

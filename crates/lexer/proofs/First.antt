@@ -15,7 +15,7 @@ use Rattle.lexer.specs.declared.Lexed.{Lexed}
 use Rattle.lexer.specs.declared.Lexed.TheVariants.{Found, End, Bad}
 use Rattle.lexer.specs.Bytes.{class_of, is_letter, is_space, is_digit, is_newline, in_name, in_number, in_comment}
 use Rattle.lexer.specs.Run.{past}
-use Rattle.lexer.specs.Kinds.{name, number, semicolon, string_literal}
+use Rattle.lexer.specs.declared.Kind.{Kind}
 use Rattle.lexer.specs.Lex.{from, rest, lex_from, next_line, last_line, token}
 use Rattle.lexer.specs.Places.{place_of, line_of, Within}
 use Rattle.lexer.specs.Lines.{newline_at, newlines}
@@ -81,7 +81,7 @@ Unbroken s a e = (k : ℕ) → a ≤ k → k < e → newline_at s k ≡ false
 
 -- no newline stands in a token that is no string literal
 abbrev pub Plain : List ℕ → Lexed → Type 0
-Plain s (Found t) = (t.kind ≡ string_literal) ⊎ Unbroken s t.start t.stop
+Plain s (Found t) = (t.kind ≡ Kind.StringLiteral) ⊎ Unbroken s t.start t.stop
 Plain s (End n) = Unit {0}
 Plain s (Bad i n) = Unit {0}
 
@@ -134,7 +134,7 @@ module _ (s : List ℕ) where
     plain = f.plain;
   }
 
-  found : (i n k j : ℕ) → from s i n ≡ token k i j n ∷ from s j n → i < j → j ≤ length s → (k ≡ string_literal) ⊎ Unbroken s i j → First s i n (token k i j n)
+  found : (i n : ℕ) (k : Kind) (j : ℕ) → from s i n ≡ token k i j n ∷ from s j n → i < j → j ≤ length s → (k ≡ Kind.StringLiteral) ⊎ Unbroken s i j → First s i n (token k i j n)
   found i n k j q h g u = record {
     whole = q;
     within = record { after = omega arith; some = h; inside = g };
@@ -143,7 +143,7 @@ module _ (s : List ℕ) where
   }
 
   -- a token that is a byte and a run after it that newlines end
-  run_found : (p : ℕ → Bool) → p 10 ≡ false → (i n k : ℕ) → i < length s → newline_at s i ≡ false
+  run_found : (p : ℕ → Bool) → p 10 ≡ false → (i n : ℕ) (k : Kind) → i < length s → newline_at s i ≡ false
       → from s i n ≡ token k i (past p s (i + 1)) n ∷ from s (past p s (i + 1)) n → First s i n (token k i (past p s (i + 1)) n)
   run_found p e i n k h b q = found i n k (past p s (i + 1)) q (omega arith) (within p s (i + 1) (omega arith)) (inr (clean p e i b))
 
@@ -189,12 +189,12 @@ module _ (s : List ℕ) where
       rw e (newline_at_lem a)
 
   one : (i n : ℕ) → ((j m : ℕ) → i < j → First s j m (lex_from s j m)) → (c : Class) → At s i n c → First s i n (lex_from s i n)
-  one i n f Letter a = head_is (run_found in_name refl i n name a.inside (newline_at_lem a) (at_letter a _ refl))
+  one i n f Letter a = head_is (run_found in_name refl i n Kind.Name a.inside (newline_at_lem a) (at_letter a _ refl))
   one i n f Space a = via (over_space a) (f (i + 1) n (omega arith))
-  one i n f Digit a = head_is (run_found in_number refl i n number a.inside (newline_at_lem a) (at_digit a _ refl))
-  one i n f SemiColon a = head_is (found i n semicolon (i + 1) (at_semicolon a) (omega arith) (omega (arith, a.inside)) (inr (alone a)))
+  one i n f Digit a = head_is (run_found in_number refl i n Kind.Number a.inside (newline_at_lem a) (at_digit a _ refl))
+  one i n f SemiColon a = head_is (found i n Kind.SemiColon (i + 1) (at_semicolon a) (omega arith) (omega (arith, a.inside)) (inr (alone a)))
   one i n f NewLine a = via (over_newline a) (f (i + 1) (next_line n) (omega arith))
-  one i n f Quote a = head_is (found i n string_literal _ (at_quote a _ refl) (omega (arith, a.inside)) (omega arith) (inl refl))
+  one i n f Quote a = head_is (found i n Kind.StringLiteral _ (at_quote a _ refl) (omega (arith, a.inside)) (omega arith) (inl refl))
   one i n f Hash a = via (over_comment a) (f (past in_comment s (i + 1)) n (omega arith))
   one i n f Other a = head_is (bad i n a)
 

@@ -15,7 +15,7 @@ use Rattle.lexer.specs.declared.Lexed.TheVariants.{End, Bad}
 use Rattle.lexer.specs.Bytes.{class_of, in_name, in_number, in_string, in_comment}
 use Rattle.lexer.specs.Run.{run, past}
 use Rattle.lexer.specs.Eight.{is_blank}
-use Rattle.lexer.specs.Kinds.{name, number, semicolon, string_literal}
+use Rattle.lexer.specs.declared.Kind.{Kind}
 use Rattle.lexer.specs.Lex.{answers, from, first_answer, lex_from, next_line, token}
 use Rattle.lexer.proofs.Runs.{step}
 
@@ -42,23 +42,26 @@ pub record At (s : List ℕ) (i n : ℕ) (k : Class) : Type 0 where
   pub inside : i < length s
   pub class : class_of (get_or s i 0) ≡ k
 
+pub at : {s : List ℕ} {i n b : ℕ} {k r : Class} → (i < length s) × ((d : ℕ) → b ≡ get_or s i d) → r ≡ class_of b → r ≡ k → At s i n k
+at h e q = record { inside = h.0; class = rw (← h.1 0) (sym e ∙ q) }
+
 -- a token of 1 + m bytes, and the answers after it
-taken : (s : List ℕ) (i n k m j : ℕ) → j ≡ i + 1 + m → token k i (i + 1 + m) n ∷ answers m (drop (i + 1) s) (i + 1) n ≡ token k i j n ∷ from s j n
+taken : (s : List ℕ) (i n : ℕ) (k : Kind) (m j : ℕ) → j ≡ i + 1 + m → token k i (i + 1 + m) n ∷ answers m (drop (i + 1) s) (i + 1) n ≡ token k i j n ∷ from s j n
 taken s i n k m j q = rw q (ap (◌∷◌ (token k i (i + 1 + m) n)) (over s m (i + 1) n))
 
-pub at_letter : {s : List ℕ} {i n : ℕ} → At s i n Letter → (j : ℕ) → j ≡ past in_name s (i + 1) → from s i n ≡ token name i j n ∷ from s j n
+pub at_letter : {s : List ℕ} {i n : ℕ} → At s i n Letter → (j : ℕ) → j ≡ past in_name s (i + 1) → from s i n ≡ token Kind.Name i j n ∷ from s j n
 unfolding from answers
-at_letter {s} {i} {n} a j q = rw (step s i a.inside) (rw (a.class, answers) (taken s i n name _ j q))
+at_letter {s} {i} {n} a j q = rw (step s i a.inside) (rw (a.class, answers) (taken s i n Kind.Name _ j q))
 
 pub at_space : {s : List ℕ} {i n : ℕ} → At s i n Space → from s i n ≡ from s (i + 1) n
 unfolding from answers
 at_space {s} {i} a = rw (step s i a.inside) (rw (a.class, answers))
 
-pub at_digit : {s : List ℕ} {i n : ℕ} → At s i n Digit → (j : ℕ) → j ≡ past in_number s (i + 1) → from s i n ≡ token number i j n ∷ from s j n
+pub at_digit : {s : List ℕ} {i n : ℕ} → At s i n Digit → (j : ℕ) → j ≡ past in_number s (i + 1) → from s i n ≡ token Kind.Number i j n ∷ from s j n
 unfolding from answers
-at_digit {s} {i} {n} a j q = rw (step s i a.inside) (rw (a.class, answers) (taken s i n number _ j q))
+at_digit {s} {i} {n} a j q = rw (step s i a.inside) (rw (a.class, answers) (taken s i n Kind.Number _ j q))
 
-pub at_semicolon : {s : List ℕ} {i n : ℕ} → At s i n SemiColon → from s i n ≡ token semicolon i (i + 1) n ∷ from s (i + 1) n
+pub at_semicolon : {s : List ℕ} {i n : ℕ} → At s i n SemiColon → from s i n ≡ token Kind.SemiColon i (i + 1) n ∷ from s (i + 1) n
 unfolding from answers
 at_semicolon {s} {i} a = rw (step s i a.inside) (rw (a.class, answers))
 
@@ -83,9 +86,9 @@ blanks s i n = blank_run (drop i s) i n ∙ over s (run is_blank (drop i s)) i n
 pub at_blanks : (s : List ℕ) (i j n : ℕ) → past is_blank s j ≡ past is_blank s i → from s i n ≡ from s j n
 at_blanks s i j n q = blanks s i n ∙ ap (λ k. from s k n) (sym q) ∙ sym (blanks s j n)
 
-pub at_quote : {s : List ℕ} {i n : ℕ} → At s i n Quote → (j : ℕ) → j ≡ min (past in_string s (i + 1) + 1) (length s) → from s i n ≡ token string_literal i j n ∷ from s j n
+pub at_quote : {s : List ℕ} {i n : ℕ} → At s i n Quote → (j : ℕ) → j ≡ min (past in_string s (i + 1) + 1) (length s) → from s i n ≡ token Kind.StringLiteral i j n ∷ from s j n
 unfolding from answers
-at_quote {s} {i} {n} a j q = rw (step s i a.inside) (rw (a.class, answers) (taken s i n string_literal _ j (omega (arith, a.inside, length-drop (i + 1) s))))
+at_quote {s} {i} {n} a j q = rw (step s i a.inside) (rw (a.class, answers) (taken s i n Kind.StringLiteral _ j (omega (arith, a.inside, length-drop (i + 1) s))))
 
 pub at_hash : {s : List ℕ} {i n : ℕ} → At s i n Hash → (j : ℕ) → j ≡ past in_comment s (i + 1) → from s i n ≡ from s j n
 unfolding from answers

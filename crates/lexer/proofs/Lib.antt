@@ -2,6 +2,7 @@ pub mod Runs
 pub mod EightBits
 pub mod EightBytes
 pub mod EightRuns
+pub mod Chunks
 pub mod Counts
 pub mod Laws
 pub mod Classes

@@ -10,7 +10,7 @@ use lib.ListN.{length}
 use Rattle.lexer.specs.declared.Token.{Token}
 use Rattle.lexer.specs.declared.Lexed.{Lexed}
 use Rattle.lexer.specs.declared.Lexed.TheVariants.{Found, End, Bad}
-use Rattle.lexer.specs.Kinds.{string_literal}
+use Rattle.lexer.specs.Kinds.{string_literal, number_of}
 use Rattle.lexer.specs.Lex.{from, rest, lex_from, last_line}
 use Rattle.lexer.specs.Places.{place_of, line_of, Within}
 use Rattle.lexer.specs.Lines.{newline_at, newlines, quotes, quoted, outside_at, outside}
@@ -71,7 +71,7 @@ module _ (s : List ℕ) (i n : ℕ) (t : Token) (e : lex_from s i n ≡ Found t)
   unfolding quoted
   body k g l =
       ⊎_elim
-      (λ q. rw (le-leb t.start k g, lt-ltb k t.stop l, eq-eqb t.kind string_literal q))
+      (λ q. let e : number_of t.kind ≡ string_literal = ap number_of q in rw (le-leb t.start k g, lt-ltb k t.stop l, eq-eqb _ _ e))
       (λ u. rw (u k g l) (and-false (not (quoted (Found t ∷ onward) k))))
       (rw e at (first_answer s i n).plain)
 

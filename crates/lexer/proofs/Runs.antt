@@ -1,12 +1,18 @@
 -- The laws of a run, over the predicate.
 use Prim.Native.Nat.{ℕ, zero, suc, ◌+◌, ◌-◌, ◌≤◌, ◌<◌}
-use mathlib.Core.Path.{◌≡◌, refl}
-use mathlib.Core.Bool.{Bool, true, false, cond, ◌&&◌}
+use mathlib.Core.Path.{◌≡◌, refl, ap, ◌∙◌}
+use mathlib.Core.Bool.{Bool, true, false, cond, not, ◌&&◌}
 use mathlib.Core.List.{List, [], ◌∷◌}
 use native.Mathlib.Numerals.{add-one}
 use native.Mathlib.Omega.{arith}
-use lib.ListN.{length, drop, get_or, drop_of_length-le, length-drop}
+use lib.ListN.{length, take, drop, get_or, drop_of_length-le, length-drop}
 use lib.Seq.{drop-cons, drop-drop, get_or-drop}
+use borrow.Author.Tests.{ltb-false}
+use Rattle.std.specs.Prelude.{Option, Some, None, ltb}
+use Rattle.std.proofs.lemmas.List.{take_rest}
+use Rattle.std.proofs.lemmas.List.Sums.{prefix_len-le-length}
+use Rattle.std.specs.Option.{unwrap_or}
+use Rattle.std.specs.List.{fold, position, position_or_len}
 use Rattle.lexer.specs.Run.{run, past}
 
 -- the list from a place on is the byte there and the list from the next place on
@@ -82,3 +88,33 @@ ended p s i h = go (p (get_or s (past p s i) 0)) refl
 pub both : (a b : Bool) → a && b ≡ true → (a ≡ true) × (b ≡ true)
 both true b h = (refl, h)
 both false b h = absurd (let z : ◌≡◌ {A = ℕ} 0 1 = cc in omega arith)
+
+-- the first byte that does not satisfy the predicate ends the run
+first_off : (p : ℕ → Bool) (l : List ℕ) → position_or_len (λ b. not (p b)) l ≡ run p l
+unfolding run
+first_off p [] = refl
+first_off p (b ∷ l) = go (p b) (first_off p l)
+  where
+    go : (t : Bool) → position_or_len (λ b. not (p b)) l ≡ run p l → cond (not (not t)) (1 + position_or_len (λ b. not (p b)) l) 0 ≡ cond t (suc (run p l)) 0
+    go true e = omega arith
+    go false e = refl
+
+pub or_len : {X : Type 0} (q : X → Bool) (l : List X) (r : Option ℕ) → r ≡ position q l → unwrap_or r (length l) ≡ position_or_len q l
+or_len q l r e = rw e (go (ltb (position_or_len q l) (length l)) refl)
+  where
+    go : (t : Bool) → ltb (position_or_len q l) (length l) ≡ t → unwrap_or (cond t (Some (position_or_len q l)) None) (length l) ≡ position_or_len q l
+    go true h = refl
+    go false h = omega (arith, prefix_len-le-length (λ x. not (q x)) l, ltb-false (position_or_len q l) (length l) h)
+
+pub found : (p : ℕ → Bool) (s : List ℕ) (i n : ℕ) (r : Option ℕ) → r ≡ position (λ b. not (p b)) (take (length s - i) (drop i s)) → n ≡ unwrap_or r (length (take (length s - i) (drop i s)))
+    → i + n ≡ past p s i
+found p s i n r e u = ap (λ k. i + k) (u ∙ or_len _ _ r e ∙ first_off p _ ∙ ap (run p) (take_rest s i))
+
+-- where every byte passes, the run goes over all
+pub all_run : (p : ℕ → Bool) (l : List ℕ) (t : Bool) → fold (λ x b. x && p b) t l ≡ true → (t ≡ true) × (run p l ≡ length l)
+unfolding run
+all_run p [] t h = (h, refl)
+all_run p (b ∷ l) t h =
+    let (u, r) = all_run p l (t && p b) h in
+    let (x, y) = both t (p b) u in
+    (x, rw (y, r))

@@ -1,6 +1,6 @@
 -- A token's line is that of its end too: no newline stands in a token outside quotes.
 use Prim.Native.Nat.{ℕ, ◌+◌, ◌-◌, ◌^◌, ◌≤◌, ◌<◌}
-use mathlib.Core.Path.{◌≡◌}
+use mathlib.Core.Path.{◌≡◌, ap}
 use mathlib.Core.Logic.{⊎_elim}
 use mathlib.Core.Bool.{true, false, not, or-true, and-false}
 use mathlib.Core.List.Memᴰ
@@ -11,7 +11,7 @@ use lib.ListN.{length}
 use Rattle.lexer.specs.declared.Token.{Token}
 use Rattle.lexer.specs.declared.Lexed.{Lexed}
 use Rattle.lexer.specs.declared.Lexed.TheVariants.{Found}
-use Rattle.lexer.specs.Kinds.{string_literal}
+use Rattle.lexer.specs.Kinds.{string_literal, number_of}
 use Rattle.lexer.specs.Lex.{from}
 use Rattle.lexer.specs.Lines.{quotes, quoted, outside_at, outside}
 use Rattle.lexer.proofs.Counts.{count_split, count_none}
@@ -34,7 +34,7 @@ module _ (s : List ℕ) (at n : ℕ) (t : Token) (m : Memᴰ (Found t) (from s a
   none_outside : (k : ℕ) → t.start ≤ k → k < t.stop → outside_at s (from s at n) k ≡ false
   none_outside k g l =
       ⊎_elim
-      (λ q. rw (quoted_by (from s at n) (Found t) k m (rw (le-leb t.start k g, lt-ltb k t.stop l, eq-eqb t.kind string_literal q))))
+      (λ q. let e : number_of t.kind ≡ string_literal = ap number_of q in rw (quoted_by (from s at n) (Found t) k m (rw (le-leb t.start k g, lt-ltb k t.stop l, eq-eqb _ _ e))))
       (λ u. rw (u k g l) (and-false (not (quoted (from s at n) k))))
       (plain_all s at n (Found t) m)
 

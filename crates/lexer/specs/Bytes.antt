@@ -2,8 +2,6 @@
 use Rattle.std.specs.Prelude.{ℕ, Bool, cond, not, ◌&&◌, ◌||◌, leb, eqb}
 use Rattle.lexer.specs.declared.scan.Class.{Class}
 use Rattle.lexer.specs.declared.scan.Class.TheVariants.{Letter, Space, Digit, SemiColon, NewLine, Quote, Hash, Other}
-use Rattle.lexer.specs.declared.scan.Run.{Run}
-use Rattle.lexer.specs.declared.scan.Run.TheVariants.{Name, Digits, StringLiteral, Comment, Ascii}
 
 -- 'a' to 'z' and 'A' to 'Z'
 abbrev pub is_letter : ℕ → Bool
@@ -40,14 +38,6 @@ in_string b = not (eqb b 34)
 -- a comment goes up to a newline
 abbrev pub in_comment : ℕ → Bool
 in_comment b = not (is_newline b)
-
--- what goes on in each run
-abbrev pub goes_on : Run → ℕ → Bool
-goes_on Name b = in_name b
-goes_on Digits b = is_digit b
-goes_on StringLiteral b = in_string b
-goes_on Comment b = in_comment b
-goes_on Ascii b = is_ascii b
 
 -- what a byte starts: a name with a letter, a number with a digit or minus, a string literal with '"', a comment with '#'; ';' stands alone
 unfoldable pub class_of : ℕ → Class

@@ -1,5 +1,5 @@
 -- Eight bytes as one number, and marks on them. Machinery of the proofs: no definition of the answers rests on it.
-use Rattle.std.specs.Prelude.{ℕ, ◌+◌, ◌-◌, ◌*◌, ◌<◌, ◌≡◌, Bool, cond, List, [], ◌∷◌, eqb, length}
+use Rattle.std.specs.Prelude.{ℕ, ◌+◌, ◌-◌, ◌*◌, ◌<◌, ◌≡◌, Bool, cond, ◌||◌, List, [], ◌∷◌, eqb, length}
 use Rattle.std.specs.Int.Bits.{bit_and, bit_or, bit_xor}
 
 -- what f makes of each byte of a list, as one number with a digit for each byte, the first of them lowest
@@ -38,3 +38,7 @@ other one first last b =
 -- the one byte that is passed over eight at a time behind a newline
 abbrev pub is_blank : ℕ → Bool
 is_blank b = eqb b 32
+
+-- the bytes that the lexer looks near behind
+abbrev pub is_gap : ℕ → Bool
+is_gap b = eqb b 32 || eqb b 10

@@ -1,12 +1,12 @@
 -- Worked examples: the answers of short texts, each by computation.
-use Rattle.std.specs.Prelude.{◌≡◌, refl, [], ◌∷◌}
+use Rattle.std.specs.Prelude.{◌≡◌, refl, [], ◌∷◌, Err}
 use Rattle.refusal.specs.Table.{refused, no_token, not_ascii}
 use Rattle.lexer.specs.declared.Lexed.TheVariants.{End, Bad}
-use Rattle.lexer.specs.declared.Answer.{Answer}
 use Rattle.text.specs.Text.{bytes}
 use Rattle.lexer.specs.Bytes.{class_of}
 use Rattle.lexer.specs.Run.{run}
-use Rattle.lexer.specs.Kinds.{name, number, semicolon, string_literal}
+use Rattle.lexer.specs.declared.Kind.{Kind}
+use Rattle.lexer.specs.Kinds.{name}
 use Rattle.lexer.specs.Lex.{answers, from, first_answer, lex_from, token}
 use Rattle.lexer.specs.Numbers.{lex_numbers}
 use Rattle.lexer.specs.Screen.{screened}
@@ -17,36 +17,36 @@ unfolding from answers
 empty_text = refl
 
 -- a name runs to the next space, over ';' too
-one_name : from (bytes "A; ;") 0 1 ≡ token name 0 2 1 ∷ token semicolon 3 4 1 ∷ End 1 ∷ []
+one_name : from (bytes "A; ;") 0 1 ≡ token Kind.Name 0 2 1 ∷ token Kind.SemiColon 3 4 1 ∷ End 1 ∷ []
 unfolding from answers class_of run
 one_name = refl
 
 -- a minus starts a number
-two_numbers : from (bytes "1-2") 0 1 ≡ token number 0 1 1 ∷ token number 1 3 1 ∷ End 1 ∷ []
+two_numbers : from (bytes "1-2") 0 1 ≡ token Kind.Number 0 1 1 ∷ token Kind.Number 1 3 1 ∷ End 1 ∷ []
 unfolding from answers class_of run
 two_numbers = refl
 
-bad_byte : from (bytes "END LIBRARY @") 0 1 ≡ token name 0 3 1 ∷ token name 4 11 1 ∷ Bad 12 1 ∷ []
+bad_byte : from (bytes "END LIBRARY @") 0 1 ≡ token Kind.Name 0 3 1 ∷ token Kind.Name 4 11 1 ∷ Bad 12 1 ∷ []
 unfolding from answers class_of run
 bad_byte = refl
 
 -- a string literal that no quote ends
-open_string : from (bytes "\"a") 0 1 ≡ token string_literal 0 2 1 ∷ End 1 ∷ []
+open_string : from (bytes "\"a") 0 1 ≡ token Kind.StringLiteral 0 2 1 ∷ End 1 ∷ []
 unfolding from answers class_of run
 open_string = refl
 
 -- a newline in a string literal does not count, one in front of it and one behind it do
-lines : from (bytes "\n\"\n\" b\nc") 0 1 ≡ token string_literal 1 4 2 ∷ token name 5 6 2 ∷ token name 7 8 3 ∷ End 3 ∷ []
+lines : from (bytes "\n\"\n\" b\nc") 0 1 ≡ token Kind.StringLiteral 1 4 2 ∷ token Kind.Name 5 6 2 ∷ token Kind.Name 7 8 3 ∷ End 3 ∷ []
 unfolding from answers class_of run
 lines = refl
 
 -- a comment goes up to a newline, or to the end of the text
-comments : from (bytes "#\"a\nb #c") 0 1 ≡ token name 4 5 2 ∷ End 2 ∷ []
+comments : from (bytes "#\"a\nb #c") 0 1 ≡ token Kind.Name 4 5 2 ∷ End 2 ∷ []
 unfolding from answers class_of run
 comments = refl
 
 -- a byte above 127 is refused at its place, wherever the token is looked for from
-high_byte : first_token (bytes "A \u{80}") 0 ≡ Answer.Refused (refused not_ascii 2 0)
+high_byte : first_token (bytes "A \u{80}") 0 ≡ Err (refused not_ascii 2 0)
 unfolding first_token screened from answers class_of run first_answer
 high_byte = refl
 

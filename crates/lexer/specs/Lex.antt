@@ -5,7 +5,7 @@ use Rattle.lexer.specs.declared.Lexed.{Lexed}
 use Rattle.lexer.specs.declared.Lexed.TheVariants.{Found, End, Bad}
 use Rattle.lexer.specs.Bytes.{class_of, in_name, in_number, in_string, in_comment}
 use Rattle.lexer.specs.Run.{run}
-use Rattle.lexer.specs.Kinds.{name, number, semicolon, string_literal}
+use Rattle.lexer.specs.declared.Kind.{Kind}
 
 -- the largest line number
 abbrev pub last_line : ℕ
@@ -15,8 +15,8 @@ last_line = 2 ^ 64 - 1
 abbrev pub next_line : ℕ → ℕ
 next_line n = min (n + 1) last_line
 
-abbrev pub token : ℕ → ℕ → ℕ → ℕ → Lexed
-token k a e n = Found (record { kind = k; start = a; stop = e; line = n })
+abbrev pub token : Kind → ℕ → ℕ → ℕ → Lexed
+token k a e n = Found (record { start = a; stop = e; line = n; kind = k })
 
 -- The answers of the text l, whose first byte has the place `at` and the line n, and whose first m bytes are passed over.
 -- What a letter, a digit or minus, a quote or a '#' starts takes the run after it with it, and a string literal the quote that ends it.
@@ -24,12 +24,12 @@ unfoldable pub answers : ℕ → List ℕ → ℕ → ℕ → List Lexed
 answers m [] at n = End n ∷ []
 answers (suc m) (b ∷ l) at n = answers m l (at + 1) n
 answers zero (b ∷ l) at n = elim (class_of b) [
-  | Letter ↦ token name at (at + 1 + run in_name l) n ∷ answers (run in_name l) l (at + 1) n
+  | Letter ↦ token Kind.Name at (at + 1 + run in_name l) n ∷ answers (run in_name l) l (at + 1) n
   | Space ↦ answers 0 l (at + 1) n
-  | Digit ↦ token number at (at + 1 + run in_number l) n ∷ answers (run in_number l) l (at + 1) n
-  | SemiColon ↦ token semicolon at (at + 1) n ∷ answers 0 l (at + 1) n
+  | Digit ↦ token Kind.Number at (at + 1 + run in_number l) n ∷ answers (run in_number l) l (at + 1) n
+  | SemiColon ↦ token Kind.SemiColon at (at + 1) n ∷ answers 0 l (at + 1) n
   | NewLine ↦ answers 0 l (at + 1) (next_line n)
-  | Quote ↦ token string_literal at (at + 1 + min (run in_string l + 1) (length l)) n ∷ answers (min (run in_string l + 1) (length l)) l (at + 1) n
+  | Quote ↦ token Kind.StringLiteral at (at + 1 + min (run in_string l + 1) (length l)) n ∷ answers (min (run in_string l + 1) (length l)) l (at + 1) n
   | Hash ↦ answers (run in_comment l) l (at + 1) n
   | Other ↦ Bad at n ∷ []
 ]

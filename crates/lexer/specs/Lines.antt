@@ -3,7 +3,7 @@ use Rattle.std.specs.Prelude.{ℕ, zero, suc, ◌+◌, ◌-◌, Bool, false, con
 use Rattle.lexer.specs.declared.Lexed.{Lexed}
 use Rattle.lexer.specs.declared.Lexed.TheVariants.{Found, End, Bad}
 use Rattle.lexer.specs.Bytes.{is_newline}
-use Rattle.lexer.specs.Kinds.{string_literal}
+use Rattle.lexer.specs.Kinds.{string_literal, number_of}
 
 -- how many of the m places from `at` on satisfy p
 unfoldable pub tally : (ℕ → Bool) → ℕ → ℕ → ℕ
@@ -24,7 +24,7 @@ newlines s a e = count (newline_at s) a e
 
 -- the answer is a string literal, and the place i lies in it
 abbrev pub quotes : Lexed → ℕ → Bool
-quotes (Found t) i = leb t.start i && (ltb i t.stop && eqb t.kind string_literal)
+quotes (Found t) i = leb t.start i && (ltb i t.stop && eqb (number_of t.kind) string_literal)
 quotes (End n) i = false
 quotes (Bad j n) i = false
 

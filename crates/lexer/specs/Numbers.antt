@@ -1,14 +1,14 @@
 -- The numbers of what the lexer answers, for every case: refusal, place and line, and a token's kind, start and stop. What an answer has not is 0.
-use Rattle.std.specs.Prelude.{ℕ, List, length}
+use Rattle.std.specs.Prelude.{ℕ, List, length, Result, Ok, Err, ⊤}
 use Rattle.refusal.specs.declared.Refusal.{Refusal}
 use Rattle.refusal.specs.Table.{refused, done, no_token}
 use Rattle.lexer.specs.declared.Lexed.{Lexed}
-use Rattle.lexer.specs.declared.Screened.{Screened}
+use Rattle.lexer.specs.Kinds.{number_of}
 
 -- a text that the other calls may read is no refusal
-abbrev pub screen_numbers : Screened → Refusal
-screen_numbers Screened.Clear = refused done 0 0
-screen_numbers (Screened.Refused r) = r
+abbrev pub screen_numbers : Result ⊤ Refusal → Refusal
+screen_numbers (Ok clear) = refused done 0 0
+screen_numbers (Err r) = r
 
 pub record Numbers : Type 0 where
   pub refusal : ℕ
@@ -36,6 +36,6 @@ bad_byte place line = refused no_token place line
 
 -- what is found next, each with its line
 abbrev pub lex_numbers : List ℕ → Lexed → Numbers
-lex_numbers s (Lexed.Found t) = stands_as t.line t.kind t.start t.stop
+lex_numbers s (Lexed.Found t) = stands_as t.line (number_of t.kind) t.start t.stop
 lex_numbers s (Lexed.End n) = end_as s n
 lex_numbers s (Lexed.Bad i n) = refused_as (bad_byte i n)

@@ -1,12 +1,11 @@
 // Runs of bytes, eight at a time: a mark is set at each byte that ends the run, and the place of the first mark is counted.
-ghost use Rattle.std.specs.Prelude.{◌≡◌, List, ℕ, ◌+◌, ◌/◌, ◌≤◌, ◌<◌, length, take, drop};
+ghost use Rattle.std.specs.Prelude.{◌≡◌, List, ℕ, Bool, ◌+◌, ◌/◌, ◌≤◌, ◌<◌, length, take, drop};
 ghost use Rattle.std.specs.Int.Count.{count_trailing_zeros};
 ghost use Rattle.lexer.specs.Bytes.{in_name, in_number};
 ghost use Rattle.lexer.specs.Run.{past};
 ghost use Rattle.lexer.specs.Eight.{each, other, is_blank, Packed, Marks};
 
 use crate::scan;
-use crate::scan::Run;
 
 // 1, 127 and 128 in each of eight bytes.
 const ONES: u64 = 0x0101010101010101;
@@ -15,25 +14,18 @@ const LOWS: u64 = 0x7f7f7f7f7f7f7f7f;
 
 const TOPS: u64 = 0x8080808080808080;
 
-fn wide(x: u8) -> u64
-    ensures { (result ≡ x) × (result < 256) }
-{
-    x as u64
-}
-
 // The eight bytes from a place on as one number, the first of them lowest.
 pub(crate) fn eight(text: &[u8], at: usize) -> u64
     requires { at + 8 ≤ length text.now }
     ensures { Packed (take 8 (drop at text.now)) result }
 {
-    wide(text[at])
-        + 256 * wide(text[at + 1])
-        + 65536 * wide(text[at + 2])
-        + 16777216 * wide(text[at + 3])
-        + 4294967296 * wide(text[at + 4])
-        + 1099511627776 * wide(text[at + 5])
-        + 281474976710656 * wide(text[at + 6])
-        + 72057594037927936 * wide(text[at + 7])
+    packed(<&[u8; 8]>::try_from(&text[at..at + 8]).unwrap())
+}
+
+fn packed(bytes: &[u8; 8]) -> u64
+    ensures { Packed bytes.now result }
+{
+    u64::from_le_bytes(*bytes)
 }
 
 // A mark at each byte that is not `one` and does not lie from `first` to `last`. The sums are of seven bits each, so that none
@@ -82,15 +74,7 @@ pub(crate) fn name_past(text: &[u8], at: usize) -> usize
     requires { at ≤ length text.now }
     ensures { result ≡ past in_name text.now at }
 {
-    let mut i = at;
-    while i + 8 <= text.len() {
-        let ends = name_ends(eight(text, i));
-        if ends != 0 {
-            return i + before(ends);
-        }
-        i += 8;
-    }
-    scan::run_past(Run::Name, text, i)
+    scan::run_past(text, eights_past(text, at, name_ends), scan::in_name)
 }
 
 // The place after the digits and points that start at `at`.
@@ -98,15 +82,7 @@ pub(crate) fn number_past(text: &[u8], at: usize) -> usize
     requires { at ≤ length text.now }
     ensures { result ≡ past in_number text.now at }
 {
-    let mut i = at;
-    while i + 8 <= text.len() {
-        let ends = number_ends(eight(text, i));
-        if ends != 0 {
-            return i + before(ends);
-        }
-        i += 8;
-    }
-    scan::number_past(text, i)
+    scan::run_past(text, eights_past(text, at, number_ends), scan::in_number)
 }
 
 // A place up to which there are only blanks from `at` on: behind them, or within eight bytes of the text's end.
@@ -114,15 +90,24 @@ pub(crate) fn blanks_past(text: &[u8], at: usize) -> usize
     requires { at ≤ length text.now }
     ensures { (at ≤ result) × (past is_blank text.now result ≡ past is_blank text.now at) }
 {
-    let mut i = at;
-    while i + 8 <= text.len() {
-        let ends = blank_ends(eight(text, i));
-        if ends != 0 {
-            return i + before(ends);
+    eights_past(text, at, blank_ends)
+}
+
+// A place from `at` on up to which no byte has a mark: the first that has one, or a place within eight bytes of the text's end.
+fn eights_past<F: Fn(u64) -> u64>(text: &[u8], at: usize, ends: F) -> usize
+    requires inside { at ≤ length text.now }
+    requires callable { F.IsAlwaysCallable ends }
+    ensures within { (at ≤ result) × (result ≤ length text.now) }
+    ensures same { (p : ℕ → Bool) → ((w r : ℕ) → F.post ends w r → Marks p w r) → past p text.now result ≡ past p text.now at }
+{
+    let (eights, rest) = text[at..].as_chunks::<8>();
+    for (k, bytes) in eights.iter().enumerate() {
+        let marks = ends(packed(bytes));
+        if marks != 0 {
+            return at + 8 * k + before(marks);
         }
-        i += 8;
     }
-    i
+    text.len() - rest.len()
 }
 
 // A place at most seven bytes behind `at` up to which there are only blanks: behind them, or `at` where eight or more come next.

@@ -1,6 +1,7 @@
 // Single bytes and runs of them: what a byte starts, and where a run ends.
-ghost use Rattle.std.specs.Prelude.{◌≡◌, true, ◌≤◌, ◌<◌, length};
-ghost use Rattle.lexer.specs.Bytes.{is_letter, is_space, is_digit, is_ascii, in_number, goes_on, class_of};
+ghost use Rattle.std.specs.Prelude.{◌≡◌, ◌&&◌, ℕ, Bool, true, ◌<◌, ◌≤◌, length};
+ghost use Rattle.std.specs.List.{fold};
+ghost use Rattle.lexer.specs.Bytes.{is_letter, is_space, is_digit, is_ascii, in_name, in_number, class_of};
 ghost use Rattle.lexer.specs.Run.{past};
 
 // What a byte starts.
@@ -16,43 +17,27 @@ pub enum Class {
     Other,
 }
 
-// What a run goes over.
-#[derive(Clone, Copy)]
-pub enum Run {
-    Name,
-    Digits,
-    StringLiteral,
-    Comment,
-    Ascii,
-}
-
-// The length of the text. What is lent by two references tells no bound on it; this does.
-pub fn size(text: &[u8]) -> usize
-    ensures { (result ≡ length text.now) × (result < 9223372036854775808) }
-{
-    text.len()
-}
-
 pub fn is_letter(b: u8) -> bool
     ensures { result ≡ is_letter b }
 {
-    (97 <= b) & (b <= 122) | (65 <= b) & (b <= 90)
+    b.is_ascii_alphabetic()
 }
 
 fn is_space(b: u8) -> bool
     ensures { result ≡ is_space b }
 {
-    (b == 32) | (b == 9) | (11 <= b) & (b <= 13)
+    matches!(b, b' ' | b'\t' | 11..=13)
 }
 
 pub fn is_digit(b: u8) -> bool
     ensures { result ≡ is_digit b }
 {
-    (48 <= b) & (b <= 57)
+    b.is_ascii_digit()
 }
 
 // The commonest bytes are tested for first: no byte is of two classes. A test of a range stands between two tests of one byte, since
 // the compiler makes a jump by a table of those that stand together, which measured slower.
+#[tactic(auto, unfolding(crate::specs::Bytes::class_of))]
 pub fn class_of(b: u8) -> Class
     ensures { result ≡ class_of b }
 {
@@ -79,75 +64,43 @@ pub fn class_of(b: u8) -> Class
     }
 }
 
-fn goes_on(run: Run, b: u8) -> bool
-    ensures { result ≡ goes_on run b }
+pub fn in_name(b: u8) -> bool
+    ensures { result ≡ in_name b }
 {
-    match run {
-        Run::Name => !(is_space(b) | (b == b'\n')),
-        Run::Digits => is_digit(b),
-        Run::StringLiteral => b != b'"',
-        Run::Comment => b != b'\n',
-        Run::Ascii => b <= 127,
-    }
+    !(is_space(b) | (b == b'\n'))
 }
 
-// The place after the run that starts at `at`.
-pub fn run_past(run: Run, text: &[u8], at: usize) -> usize
-    ensures { result ≡ past (goes_on run) text.now at }
+pub fn in_number(b: u8) -> bool
+    ensures { result ≡ in_number b }
 {
-    let mut i = at;
-    while i < text.len() && goes_on(run, text[i]) {
-        i += 1;
-    }
-    i
+    is_digit(b) | (b == b'.')
 }
 
-// The place after the digits and points that start at `at`. Most of them are digits, which have a loop of their own.
-pub fn number_past(text: &[u8], at: usize) -> usize
-    ensures { result ≡ past in_number text.now at }
+// The place after the run from `at` on of bytes that `goes_on` holds of.
+pub fn run_past<F: Fn(u8) -> bool>(text: &[u8], at: usize, goes_on: F) -> usize
+    requires inside { at ≤ length text.now }
+    requires callable { F.IsAlwaysCallable goes_on }
+    ensures { (p : ℕ → Bool) → ((b : ℕ) (r : Bool) → F.post goes_on b r → r ≡ p b) → result ≡ past p text.now at }
 {
-    let mut i = at;
-    loop {
-        i = run_past(Run::Digits, text, i);
-        if text.len() <= i {
-            break i;
-        }
-        if text[i] != b'.' {
-            break i;
-        }
-        i += 1;
-    }
+    let rest = &text[at..];
+    at + rest.iter().position(|b| !goes_on(*b)).unwrap_or(rest.len())
 }
 
-// How many bytes are tested for ASCII at a time: the loop over a block never leaves early, so that the compiler can test many bytes at once.
-const BLOCK: usize = 64;
-
-// The place of the first byte above 127, or the end of the text.
+// The place of the first byte above 127, or the end of the text. The loop over a block never leaves early, so that the compiler can
+// test many bytes at once; `is_ascii` of std measured slower.
 pub fn past_ascii(text: &[u8]) -> usize
     ensures { result ≡ past is_ascii text.now 0 }
 {
-    run_past(Run::Ascii, text, past_blocks(text))
+    let (blocks, _) = text.as_chunks::<64>();
+    let clear = blocks
+        .iter()
+        .position(|block| !all_ascii(block))
+        .unwrap_or(blocks.len());
+    run_past(text, 64 * clear, |b| b <= 127)
 }
 
-// The place after the blocks at the front of the text that have no byte above 127.
-fn past_blocks(text: &[u8]) -> usize
-    ensures { past is_ascii text.now result ≡ past is_ascii text.now 0 }
+fn all_ascii(block: &[u8; 64]) -> bool
+    ensures { result ≡ fold (λ ascii b. ascii && is_ascii b) true block.now }
 {
-    let mut i = 0;
-    while BLOCK <= text.len() - i && all_ascii(text, i, i + BLOCK) {
-        i += BLOCK;
-    }
-    i
-}
-
-// Whether no byte from the place `start` on and before the place `stop` is above 127.
-fn all_ascii(text: &[u8], start: usize, stop: usize) -> bool
-    requires { (start ≤ stop) × (stop ≤ length text.now) }
-    ensures { result ≡ true → past is_ascii text.now stop ≡ past is_ascii text.now start }
-{
-    let mut ascii = true;
-    for i in start..stop {
-        ascii = ascii & (text[i] <= 127);
-    }
-    ascii
+    block.iter().fold(true, |ascii, b| ascii & (*b <= 127))
 }

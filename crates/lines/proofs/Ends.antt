@@ -19,8 +19,9 @@ use Rattle.render.specs.Pieces.{Said, Piece, newline, text}
 use Rattle.render.specs.Says.{word}
 use Rattle.render.specs.Forms.{Close, close_of, last_words}
 use Rattle.render.specs.Lines.{spaced, indented, line, line_end, settled_by, settling, ending}
-use Rattle.lines.specs.Put.{Put}
-use Rattle.lines.proofs.Laws.{put_as, put_then}
+use Rattle.lines.specs.declared.page.Page.{Page}
+use Rattle.lines.specs.Put.{Puts}
+use Rattle.lines.proofs.Laws.{puts_as, puts_then}
 use Rattle.lines.proofs.Pieced.{pieces_then, line_ends}
 use Rattle.lines.proofs.Stated.{word_first}
 
@@ -105,8 +106,8 @@ begun : (d : ℕ) → replicate (2 * d) 32 ++ spelling 9 ≡ text (indented d (w
 unfolding text indented spaced
 begun d = rw append-nil
 
-pub end_line : {o o' o'' e : List ℕ} {at m k q n : ℕ} (d : ℕ) (ts : List Said) → n ≡ 2 * d
-    → Put o at (replicate n 32 ++ spelling 9) m o' → Put o' m (text (spaced ts)) k o'' → Put o'' k (10 ∷ []) q e → Put o at (text (line d (word 9 ∷ ts))) q e
+pub end_line : {p q r e : Page} {n : ℕ} (d : ℕ) (ts : List Said) → n ≡ 2 * d
+    → Puts p q (replicate n 32 ++ spelling 9) → Puts q r (text (spaced ts)) → Puts r e (10 ∷ []) → Puts p e (text (line d (word 9 ∷ ts)))
 unfolding line
 end_line d ts z a b c =
-    pieces_then (indented d (word 9 ∷ ts)) (newline ∷ []) (put_as (word_first d (word 9) ts) (put_then (put_as (begun d) (rw z at a)) b)) (line_ends c)
+    pieces_then (indented d (word 9 ∷ ts)) (newline ∷ []) (puts_as (word_first d (word 9) ts) (puts_then (puts_as (begun d) (rw z at a)) b)) (line_ends c)

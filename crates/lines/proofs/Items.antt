@@ -9,17 +9,19 @@ use borrow.Author.Tests.{ne_eqb, ltb-false, leb-true, leb-false, le-ltb}
 use lib.Dec.{eqb, leb, ltb}
 use Rattle.word.proofs.Words.{clash}
 use lib.ListN.{take, drop}
+use Rattle.record.specs.declared.Record.{Record}
 use Rattle.grammar.specs.Grammar.{Item, among}
 use Rattle.grammar.specs.Table.{versions, microns}
 use Rattle.rows.specs.Packed.{item_at, items_of}
 use Rattle.rows.proofs.Unpack.{split, no_items}
 use Rattle.rows.proofs.Ranges.{at_code, at_more, at_whole, at_among, at_low, choose, all_low, all_high}
 use Rattle.render.specs.Pieces.{Said, text}
-use Rattle.render.specs.Plain.{Plain}
+use Rattle.render.specs.Plain.{Plain, bare}
 use Rattle.render.specs.Says.{says, shows, any, omitted, says_all}
 use Rattle.render.specs.Lines.{spaced}
-use Rattle.lines.specs.Put.{greatest, Put}
-use Rattle.lines.proofs.Laws.{put_none, put_as}
+use Rattle.lines.specs.declared.page.Page.{Page}
+use Rattle.lines.specs.Put.{Puts}
+use Rattle.lines.proofs.Laws.{puts_none, puts_as}
 use Rattle.lines.proofs.Pieced.{pieces_then}
 
 -- WHAT THEY SAY
@@ -29,12 +31,12 @@ unfolding spaced
 spaced_append [] us = refl
 spaced_append (t ∷ ts) us = rw (spaced_append ts us)
 
-pub put_said : {o e : List ℕ} {at p : ℕ} {ts us : List Said} → ts ≡ us → Put o at (text (spaced us)) p e → Put o at (text (spaced ts)) p e
-put_said q p = put_as (ap (λ l. text (spaced l)) (sym q)) p
+pub put_said : {p q : Page} {ts us : List Said} → ts ≡ us → Puts p q (text (spaced us)) → Puts p q (text (spaced ts))
+put_said e w = puts_as (ap (λ l. text (spaced l)) (sym e)) w
 
-pub put_nothing : {o : List ℕ} {at : ℕ} → at ≤ greatest → Put o at (text (spaced [])) at o
+pub put_nothing : (p : Page) → Puts p p (text (spaced []))
 unfolding text spaced
-put_nothing h = put_none h
+put_nothing p = puts_none p
 
 -- items that are left out are dropped
 left_out : (m : ℕ) (label : List ℕ) (is : List Item) (r : Plain) → says_all m label is r ≡ says_all 0 label (drop m is) r
@@ -55,9 +57,14 @@ one_said label r s t h n e =
 
 -- the first item is put, and then the others
 pub turn : (label : List ℕ) (r : Plain) (s t : ℕ) → s < 2 ^ 64 → (s ≡ 0 → ⊥) → items_of t ≡ drop (omitted r (item_at (s % 256)) (items_of (s / 256))) (items_of (s / 256))
-    → {o o' : List ℕ} {at p : ℕ} → Put o at (text (spaced (says label r (item_at (s % 256))))) p o'
-    → (q : ℕ) (e : List ℕ) → Put o' p (text (spaced (says_all 0 label (items_of t) r))) q e → Put o at (text (spaced (says_all 0 label (items_of s) r))) q e
-turn label r s t h n d a q e b = put_as (ap text (sym (one_said label r s t h n d))) (pieces_then _ _ a b)
+    → {p q : Page} → Puts p q (text (spaced (says label r (item_at (s % 256)))))
+    → (e : Page) → Puts q e (text (spaced (says_all 0 label (items_of t) r))) → Puts p e (text (spaced (says_all 0 label (items_of s) r)))
+turn label r s t h n d v e w = puts_as (ap text (sym (one_said label r s t h n d))) (pieces_then _ _ v w)
+
+-- what is left of the items is told by the record's text, under whatever name it goes
+pub left_of : (r : Record) (s t : ℕ) {u v : List ℕ} → u ≡ v → items_of t ≡ drop (omitted (bare u r) (item_at (s % 256)) (items_of (s / 256))) (items_of (s / 256))
+    → items_of t ≡ drop (omitted (bare v r) (item_at (s % 256)) (items_of (s / 256))) (items_of (s / 256))
+left_of r s t e h = rw e at h
 
 pub none_said : (label : List ℕ) (r : Plain) {s : ℕ} → s ≡ 0 → [] ≡ text (spaced (says_all 0 label (items_of s) r))
 unfolding says_all spaced text

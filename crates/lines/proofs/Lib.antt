@@ -1,6 +1,5 @@
 pub mod Laws
 pub mod Copied
-pub mod Numbers
 pub mod Tokens
 pub mod Pieced
 pub mod Spelt

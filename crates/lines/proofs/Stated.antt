@@ -1,5 +1,5 @@
 -- A statement is what begins it, what its items say, and the end of its line.
-use Prim.Native.Nat.{ℕ, ◌*◌, ◌/◌, ◌%◌, ◌≤◌}
+use Prim.Native.Nat.{ℕ, ◌*◌, ◌/◌, ◌%◌}
 use Prim.Native.String.{String}
 use mathlib.Core.Path.{◌≡◌, refl, sym, ap, ◌∙◌}
 use mathlib.Core.Bool.{Bool, true, false, cond, ◌||◌}
@@ -21,10 +21,11 @@ use Rattle.render.specs.Forms.{Form, forms_of, row_forms, forms_in, form_for, be
 use Rattle.render.specs.Lines.{spaced, indented, on_line, goes_on}
 use Rattle.render.proofs.Appended.{text_append}
 use Rattle.render.proofs.Forms.{form_passes}
-use Rattle.lines.specs.Put.{greatest, Put}
+use Rattle.lines.specs.declared.page.Page.{Page}
+use Rattle.lines.specs.Put.{Puts}
 use Rattle.lines.specs.Formed.{begin_of}
 use Rattle.lines.specs.Stated.{started}
-use Rattle.lines.proofs.Laws.{put_none, put_as, put_then}
+use Rattle.lines.proofs.Laws.{puts_none, puts_as, puts_then}
 use Rattle.lines.proofs.Pieced.{pieces_then, line_ends}
 use Rattle.lines.proofs.Spelt.{begins_word, begins_none}
 use Rattle.lines.proofs.Items.{spaced_append}
@@ -61,16 +62,16 @@ module _ (f : Frame ℕ) (m : ℕ) where
 
 -- WHAT BEGINS IT
 
-pub no_start : {o : List ℕ} {at : ℕ} (goes : Bool) (depth : ℕ) {w : ℕ} → w ≡ 0 → at ≤ greatest → Put o at (started goes depth w) at o
+pub no_start : (p : Page) (goes : Bool) (depth : ℕ) {w : ℕ} → w ≡ 0 → Puts p p (started goes depth w)
 unfolding started spaced indented text
-no_start true depth e h = rw (e, begins_none) (put_none h)
-no_start false depth e h = rw (e, begins_none) (put_none h)
+no_start p true depth e = rw (e, begins_none) (puts_none p)
+no_start p false depth e = rw (e, begins_none) (puts_none p)
 
-pub on_start : {o e : List ℕ} {at p n : ℕ} (goes : Bool) (depth w : ℕ) → (w ≡ 0 → ⊥) → goes ≡ true → n ≡ 1 → Put o at (replicate n 32 ++ spelling w) p e → Put o at (started goes depth w) p e
+pub on_start : {p q : Page} {n : ℕ} (goes : Bool) (depth w : ℕ) → (w ≡ 0 → ⊥) → goes ≡ true → n ≡ 1 → Puts p q (replicate n 32 ++ spelling w) → Puts p q (started goes depth w)
 unfolding started spaced text
 on_start goes depth w z g i p = rw (g, begins_word w (ne_eqb w 0 z), append-nil) (rw i at p)
 
-pub off_start : {o e : List ℕ} {at p n : ℕ} (goes : Bool) (depth w : ℕ) → (w ≡ 0 → ⊥) → goes ≡ false → n ≡ 2 * depth → Put o at (replicate n 32 ++ spelling w) p e → Put o at (started goes depth w) p e
+pub off_start : {p q : Page} {n : ℕ} (goes : Bool) (depth w : ℕ) → (w ≡ 0 → ⊥) → goes ≡ false → n ≡ 2 * depth → Puts p q (replicate n 32 ++ spelling w) → Puts p q (started goes depth w)
 unfolding started spaced indented text
 off_start goes depth w z g i p = rw (g, begins_word w (ne_eqb w 0 z), append-nil) (rw i at p)
 
@@ -117,16 +118,16 @@ stated false depth w ts h = go (eqb w 0) refl
     go true e = clash (sym (h (eqb-true w 0 e)))
     go false e = rw (begins_word w e) (word_first depth (word w) ts)
 
-module _ (goes : Bool) (depth w : ℕ) (ts : List Said) (h : w ≡ 0 → goes ≡ true) {o o' o'' : List ℕ} {at m k : ℕ}
-    (a : Put o at (started goes depth w) m o') (b : Put o' m (text (spaced ts)) k o'') where
+module _ (goes : Bool) (depth w : ℕ) (ts : List Said) (h : w ≡ 0 → goes ≡ true) {p q r : Page}
+    (v : Puts p q (started goes depth w)) (u : Puts q r (text (spaced ts))) where
   abbrev tokens_of : List Piece
   tokens_of = cond goes (spaced (begins (begin_of w) ++ ts)) (indented depth (begins (begin_of w) ++ ts))
 
-  whole : Put o at (text tokens_of) k o''
-  whole = put_as (stated goes depth w ts h) (put_then a b)
+  whole : Puts p r (text tokens_of)
+  whole = puts_as (stated goes depth w ts h) (puts_then v u)
 
-  pub line_goes_on : {t : Bool} → t ≡ true → Put o at (text (tokens_of ++ cond t [] (newline ∷ []))) k o''
+  pub line_goes_on : {t : Bool} → t ≡ true → Puts p r (text (tokens_of ++ cond t [] (newline ∷ [])))
   line_goes_on e = rw (e, append-nil) whole
 
-  pub line_over : {t : Bool} → t ≡ false → {q : ℕ} {e : List ℕ} → Put o'' k (10 ∷ []) q e → Put o at (text (tokens_of ++ cond t [] (newline ∷ []))) q e
-  line_over e c = rw e (pieces_then tokens_of (newline ∷ []) whole (line_ends c))
+  pub line_over : {t : Bool} → t ≡ false → {e : Page} → Puts r e (10 ∷ []) → Puts p e (text (tokens_of ++ cond t [] (newline ∷ [])))
+  line_over f c = rw f (pieces_then tokens_of (newline ∷ []) whole (line_ends c))

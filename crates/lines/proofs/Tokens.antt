@@ -1,17 +1,11 @@
--- A token of a line, as it is put: after its indent where it begins the line, else after a space.
-use Prim.Native.Nat.{ℕ, ◌*◌}
-use mathlib.Core.List.{List, [], ◌∷◌, append-nil}
-use lib.ListN.{replicate}
+-- A token of a line, as it is put: after a space.
+use mathlib.Core.List.{[], ◌∷◌, append-nil}
 use Rattle.render.specs.Pieces.{Said, text}
-use Rattle.render.specs.Lines.{spaced, indented}
-use Rattle.lines.specs.Put.{Put}
-use Rattle.lines.proofs.Laws.{put_then}
+use Rattle.render.specs.Lines.{spaced}
+use Rattle.lines.specs.declared.page.Page.{Page}
+use Rattle.lines.specs.Put.{Puts}
+use Rattle.lines.proofs.Laws.{puts_then}
 
-module _ {o o' o'' : List ℕ} {at m n : ℕ} (t : Said) where
-  pub put_next : Put o at (32 ∷ []) m o' → Put o' m t.bytes n o'' → Put o at (text (spaced (t ∷ []))) n o''
-  unfolding text spaced
-  put_next p q = rw append-nil (put_then p q)
-
-  pub put_first : (depth : ℕ) → Put o at (replicate (2 * depth) 32) m o' → Put o' m t.bytes n o'' → Put o at (text (indented depth (t ∷ []))) n o''
-  unfolding text spaced indented
-  put_first depth p q = rw append-nil (put_then p q)
+pub put_next : {p q r : Page} (t : Said) → Puts p q (32 ∷ []) → Puts q r t.bytes → Puts p r (text (spaced (t ∷ [])))
+unfolding text spaced
+put_next t v w = rw append-nil (puts_then v w)

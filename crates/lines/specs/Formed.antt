@@ -1,6 +1,6 @@
 -- Inner machinery, which nobody has to believe: the form that the code finds for a record.
 -- The image `as_formed` forgets nothing of an answer but how a number says the items and what the record does to the open blocks.
-use Rattle.std.specs.Prelude.{ℕ, ◌/◌, ◌%◌, Bool, true, cond, ◌&&◌, List, [], ◌∷◌, ◌++◌, eqb, leb}
+use Rattle.std.specs.Prelude.{ℕ, Option, Some, None, ◌/◌, ◌%◌, Bool, true, cond, ◌&&◌, List, [], ◌∷◌, ◌++◌, eqb, leb}
 use Prim.Native.String.{String}
 use Rattle.word.specs.Words.{keys, values}
 use Rattle.word.specs.Spelling.{first_of}
@@ -8,8 +8,7 @@ use Rattle.grammar.specs.Grammar.{Act, statement, close, refuse, back, up_to54}
 use Rattle.grammar.specs.Engine.{Maybe, none, some}
 use Rattle.rows.specs.Packed.{nth, items_of, move_of, coded, word_of_kind}
 use Rattle.render.specs.Forms.{Form, form, of_code}
-use Rattle.lines.specs.declared.form.Formed.{Formed}
-use Rattle.lines.specs.declared.form.Formed.TheVariants as F
+use Rattle.lines.specs.declared.form.Form.{Form as Found}
 
 -- the word with a number, and none with 0
 unfoldable pub word_at : ℕ → String
@@ -19,9 +18,9 @@ word_at n = nth n ("" ∷ (keys ++ values))
 unfoldable pub begin_of : ℕ → List String
 begin_of w = cond (eqb w 0) [] (word_at w ∷ [])
 
-abbrev pub as_formed : ℕ → Formed → Maybe Form
-as_formed k (F.In w row) = some (form k (begin_of w) (items_of row.items) (move_of (row.head / 256)) (leb 128 (row.head % 256)))
-as_formed k F.None = none
+abbrev pub as_formed : ℕ → Option Found → Maybe Form
+as_formed k (Some f) = some (form k (begin_of f.word) (items_of f.row.items) (move_of (f.row.head / 256)) (leb 128 (f.row.head % 256)))
+as_formed k None = none
 
 -- the form of an act that the word with the number w begins, where it gives records of the kind k and the code c
 unfoldable pub form_by : ℕ → ℕ → ℕ → Bool → Act → Maybe Form

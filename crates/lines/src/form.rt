@@ -10,15 +10,15 @@ use record::kind;
 use rows::{Row, act, form, item};
 use word::codes::first_word;
 
+// The number of the word, 0 where there is none, and the row.
 #[derive(Clone, Copy)]
-pub enum Formed {
-    // The number of the word, 0 where there is none, and the row.
-    In(u8, Row),
-    None,
+pub struct Form {
+    pub word: u8,
+    pub row: Row,
 }
 
 // The form of a record of the kind and code in a block, which may have none for it.
-pub fn form_for(block: u64, kind: u8, code: u8) -> Formed
+pub fn form_for(block: u64, kind: u8, code: u8) -> Option<Form>
     ensures { (f : Frame ℕ) (p : Plain) → f.block ≡ block_of block → p.kind ≡ kind → p.code ≡ code → form_in f p ≡ as_formed kind result }
 {
     if rows::form_of(block) < form::PARTS {
@@ -29,7 +29,7 @@ pub fn form_for(block: u64, kind: u8, code: u8) -> Formed
 }
 
 // The row, where it gives such records.
-fn fitting(word: u8, kind: u8, code: u8, row: Row) -> Formed
+fn fitting(word: u8, kind: u8, code: u8, row: Row) -> Option<Form>
     ensures { as_formed kind result ≡ form_by word kind code false (act_of row.head row.items) }
 {
     let does = row.head % 128;
@@ -38,9 +38,9 @@ fn fitting(word: u8, kind: u8, code: u8, row: Row) -> Formed
         & (does == kind as u64)
         & ((first < item::CODE) | (item::IF_MORE <= first) | (first == item::CODE + code as u64))
     {
-        Formed::In(word, row)
+        Some(Form { word, row })
     } else {
-        Formed::None
+        None
     }
 }
 

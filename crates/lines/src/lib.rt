@@ -4,5 +4,5 @@
 pub mod block;
 pub mod form;
 pub mod line;
-mod put;
+pub mod page;
 mod say;

@@ -3,75 +3,72 @@ ghost use Rattle.std.specs.Prelude.{[], ◌∷◌, ◌++◌, replicate};
 ghost use Rattle.word.specs.Spelling.{spelling};
 ghost use Rattle.parser.specs.Kept.{name_in};
 ghost use Rattle.render.specs.Pieces.{text as bytes_of};
-ghost use Rattle.render.specs.Says.{word, number as number_of, semicolon};
+ghost use Rattle.render.specs.Says.{word, number as number_of, semicolon, quoted};
 ghost use Rattle.render.specs.Lines.{spaced, line_end};
-ghost use Rattle.lines.specs.Put.{Put};
-ghost use Rattle.lines.specs.Said.{part, quote};
+ghost use Rattle.lines.specs.Put.{Puts};
+ghost use Rattle.lines.specs.Said.{name_said};
 
-use crate::put::{put_byte, put_number, put_part, put_spaces, put_word};
+use crate::page::Page;
 
-// A word after so many spaces.
-pub(crate) fn begin(n: usize, k: u8, out: &mut [u8], at: usize) -> usize
-    ensures { Put out.old at (replicate n 32 ++ spelling k) result out.new }
-{
-    let p = put_spaces(n, out, at);
-    put_word(k, out, p)
-}
+impl<'t, 'b> Page<'t, 'b> {
+    // A word after so many spaces.
+    pub(crate) fn begin(&mut self, n: usize, k: u8)
+        ensures { Puts self.old self.new (replicate n 32 ++ spelling k) }
+    {
+        self.put_spaces(n);
+        self.put_word(k);
+    }
 
-pub(crate) fn next_word(k: u8, out: &mut [u8], at: usize) -> usize
-    ensures { Put out.old at (bytes_of (spaced (word k ∷ []))) result out.new }
-{
-    let p = put_byte(b' ', out, at);
-    put_word(k, out, p)
-}
+    pub(crate) fn next_word(&mut self, k: u8)
+        ensures { Puts self.old self.new (bytes_of (spaced (word k ∷ []))) }
+    {
+        self.put_byte(b' ');
+        self.put_word(k);
+    }
 
-pub(crate) fn next_number(v: u64, out: &mut [u8], at: usize) -> usize
-    ensures { Put out.old at (bytes_of (spaced (number_of v ∷ []))) result out.new }
-{
-    let p = put_byte(b' ', out, at);
-    put_number(v, out, p)
-}
+    pub(crate) fn next_number(&mut self, v: u64)
+        ensures { Puts self.old self.new (bytes_of (spaced (number_of v ∷ []))) }
+    {
+        self.put_byte(b' ');
+        self.put_number(v);
+    }
 
-// A part of the text, in quotes or not.
-pub(crate) fn next_part(
-    text: &[u8],
-    quoted: bool,
-    start: usize,
-    len: usize,
-    out: &mut [u8],
-    at: usize,
-) -> usize
-    ensures { Put out.old at (bytes_of (spaced (part quoted (name_in text.now start len) ∷ []))) result out.new }
-{
-    let p = put_byte(b' ', out, at);
-    let q = put_quote(quoted, out, p);
-    let s = put_part(text, start, len, out, q);
-    put_quote(quoted, out, s)
-}
+    // A part of the text.
+    pub(crate) fn next_name(&mut self, start: usize, len: usize)
+        ensures { Puts self.old self.new (bytes_of (spaced (name_said (name_in self.old.text.now start len) ∷ []))) }
+    {
+        self.put_byte(b' ');
+        self.put_part(start, len);
+    }
 
-fn put_quote(quoted: bool, out: &mut [u8], at: usize) -> usize
-    ensures { Put out.old at (quote quoted) result out.new }
-{
-    if quoted { put_byte(b'"', out, at) } else { at }
-}
+    // A part of the text in quotes.
+    pub(crate) fn next_quoted(&mut self, start: usize, len: usize)
+        ensures { Puts self.old self.new (bytes_of (spaced (quoted (name_in self.old.text.now start len) ∷ []))) }
+    {
+        self.put_byte(b' ');
+        self.put_byte(b'"');
+        self.put_part(start, len);
+        self.put_byte(b'"');
+    }
 
-pub(crate) fn next_semicolon(out: &mut [u8], at: usize) -> usize
-    ensures { Put out.old at (bytes_of (spaced (semicolon ∷ []))) result out.new }
-{
-    let p = put_byte(b' ', out, at);
-    put_byte(b';', out, p)
-}
+    pub(crate) fn next_semicolon(&mut self)
+        ensures { Puts self.old self.new (bytes_of (spaced (semicolon ∷ []))) }
+    {
+        self.put_byte(b' ');
+        self.put_byte(b';');
+    }
 
-// ` ;` and the end of the line.
-pub fn end_statement(out: &mut [u8], at: usize) -> usize
-    ensures { Put out.old at (bytes_of line_end) result out.new }
-{
-    let p = next_semicolon(out, at);
-    put_byte(b'\n', out, p)
-}
+    // ` ;` and the end of the line.
+    pub fn end_statement(&mut self)
+        ensures { Puts self.old self.new (bytes_of line_end) }
+    {
+        self.next_semicolon();
+        self.end_line();
+    }
 
-pub(crate) fn end_line(out: &mut [u8], at: usize) -> usize
-    ensures { Put out.old at (10 ∷ []) result out.new }
-{
-    put_byte(b'\n', out, at)
+    pub(crate) fn end_line(&mut self)
+        ensures { Puts self.old self.new (10 ∷ []) }
+    {
+        self.put_byte(b'\n');
+    }
 }

@@ -1,157 +1,117 @@
 // What a record says, item by item of its row.
-ghost use Rattle.std.specs.Prelude.{◌≡◌, cond, not, List, ℕ, ◌-◌, ◌≤◌, ◌<◌, eqb, take, drop};
+ghost use Rattle.std.specs.Prelude.{◌≡◌, not, List, ℕ, ◌-◌, ◌≤◌, ◌<◌, take, drop};
 ghost use Rattle.text.specs.Text.{bytes};
 ghost use Rattle.word.specs.Spelling.{spelling};
 ghost use Rattle.grammar.specs.Grammar.{semi, second};
 ghost use Rattle.grammar.specs.Engine.{empty};
-ghost use Rattle.parser.specs.Kept.{name_in};
+ghost use Rattle.parser.specs.Kept.{name_in, frame_of};
 ghost use Rattle.rows.specs.Packed.{key_at, item_at, items_of};
 ghost use Rattle.render.specs.Pieces.{text as bytes_of};
 ghost use Rattle.render.specs.Plain.{Plain, bare};
 ghost use Rattle.render.specs.Says.{says, shows, any, omitted, says_all};
 ghost use Rattle.render.specs.Lines.{spaced};
-ghost use Rattle.lines.specs.Put.{Put};
-ghost use Rattle.lines.specs.Said.{Other, as_token};
+ghost use Rattle.lines.specs.Put.{Puts};
+ghost use Rattle.lines.specs.Said.{all_said};
 
-use crate::line::{next_number, next_part, next_semicolon, next_word};
+use crate::page::Page;
+use parser::open::Frame;
 use record::Record;
 use rows::item;
 use word::codes::{first_word, second_word};
 use word::names;
 
-// The number of a word; a part of the text, in quotes or not; a `;`.
+// The number of a word; a number as a record stores it; a `;`; so many bytes of the text from a place on, as they stand or in quotes.
 #[derive(Clone, Copy)]
 enum Token {
     Word(u8),
+    Number(u64),
     Semicolon,
-    Part(bool, usize, usize),
-    Nothing,
+    Name(usize, usize),
+    Quoted(usize, usize),
 }
 
-// The items of a row, a byte each, in a block with the name of so many bytes at `title`.
-pub(crate) fn say_all(
-    text: &[u8],
-    items: u64,
-    title: usize,
-    len: usize,
-    r: Record,
-    out: &mut [u8],
-    at: usize,
-) -> usize
-    ensures { Put out.old at (bytes_of (spaced (says_all 0 (name_in text.now title len) (items_of items) (bare text.now r)))) result out.new }
-{
-    let mut s = items;
-    let mut p = at;
-    while s != 0 {
-        let it = s % 256;
-        p = say(text, it, title, len, r, out, p);
-        s = after(text, it, s / 256, r);
+impl<'t, 'b> Page<'t, 'b> {
+    // What a record says by the items of a row, a byte each, in the block f. An item can leave out several after it, so no iterator gives them.
+    pub(crate) fn say_all(&mut self, items: u64, f: Frame, r: Record)
+        ensures { Puts self.old self.new (bytes_of (spaced (says_all 0 (frame_of self.old.text.now f).label (items_of items) (bare self.old.text.now r)))) }
+    {
+        let mut left = items;
+        while left != 0 {
+            let it = left % 256;
+            self.say(it, f, r);
+            left = after(self.text, it, left / 256, r);
+        }
     }
-    p
-}
 
-// One item.
-fn say(
-    text: &[u8],
-    it: u64,
-    title: usize,
-    len: usize,
-    r: Record,
-    out: &mut [u8],
-    at: usize,
-) -> usize
-    ensures { Put out.old at (bytes_of (spaced (says (name_in text.now title len) (bare text.now r) (item_at it)))) result out.new }
-{
-    match it {
-        item::X | item::Y => next_number(number_in(it, r), out, at),
-        item::SEMI => next_semicolon(out, at),
-        _ => say_other(text, it, title, len, r, out, at),
+    // One item. The tokens are put here, and not by a call that takes one: it would pass them through memory, and writing was measured
+    // to be 8 in 100 slower.
+    fn say(&mut self, it: u64, f: Frame, r: Record)
+        ensures { Puts self.old self.new (bytes_of (spaced (says (frame_of self.old.text.now f).label (bare self.old.text.now r) (item_at it)))) }
+    {
+        match token_in(it, f, r) {
+            Some(Token::Word(k)) => self.next_word(k),
+            Some(Token::Number(v)) => self.next_number(v),
+            Some(Token::Semicolon) => self.next_semicolon(),
+            Some(Token::Name(start, len)) => self.next_name(start, len),
+            Some(Token::Quoted(start, len)) => self.next_quoted(start, len),
+            None => {}
+        }
     }
 }
 
-// Of the two numbers of a record.
-fn number_in(it: u64, r: Record) -> u64
-    ensures { result ≡ cond (eqb it 1) r.x r.y }
-{
-    if it == item::X { r.x() } else { r.y() }
-}
-
-// The items that are no number and no `;`. One place puts the parts of the text: what is known of a part before the loop over the items
-// would be computed there for every record.
-fn say_other(
-    text: &[u8],
-    it: u64,
-    title: usize,
-    len: usize,
-    r: Record,
-    out: &mut [u8],
-    at: usize,
-) -> usize
-    ensures { Other it → Put out.old at (bytes_of (spaced (says (name_in text.now title len) (bare text.now r) (item_at it)))) result out.new }
-{
-    match token_in(it, title, len, r) {
-        Token::Word(k) => next_word(k, out, at),
-        Token::Semicolon => next_semicolon(out, at),
-        Token::Part(quoted, start, n) => next_part(text, quoted, start, n, out, at),
-        Token::Nothing => at,
-    }
-}
-
-// What such an item says.
-fn token_in(it: u64, title: usize, len: usize, r: Record) -> Token
-    ensures { Other it → (s : List ℕ) → says (name_in s title len) (bare s r) (item_at it) ≡ as_token s result }
+// What an item says.
+fn token_in(it: u64, f: Frame, r: Record) -> Option<Token>
+    ensures { (s : List ℕ) → says (frame_of s f).label (bare s r) (item_at it) ≡ all_said s result }
 {
     if it < item::CODE {
-        return low_in(it, title, len, r);
+        return low_in(it, f, r);
     }
     if it < item::STRING {
-        return Token::Nothing;
+        return None;
     }
     if item::KEY <= it {
-        return Token::Word(key_in(it));
+        return Some(Token::Word(key_in(it)));
     }
     match it {
-        item::WORD_MICRONS => Token::Word(names::MICRONS),
-        item::WORD_UNITS => Token::Word(names::UNITS),
-        _ => Token::Part(true, r.name(), r.len()),
+        item::WORD_MICRONS => Some(Token::Word(names::MICRONS)),
+        item::WORD_UNITS => Some(Token::Word(names::UNITS)),
+        _ => Some(Token::Quoted(r.name(), r.len())),
     }
 }
 
 // The items below the codes.
-fn low_in(it: u64, title: usize, len: usize, r: Record) -> Token
-    ensures { Other it → it < 32 → (s : List ℕ) → says (name_in s title len) (bare s r) (item_at it) ≡ as_token s result }
+fn low_in(it: u64, f: Frame, r: Record) -> Option<Token>
+    ensures { it < 32 → (s : List ℕ) → says (frame_of s f).label (bare s r) (item_at it) ≡ all_said s result }
 {
     match it {
-        item::NAME => Token::Part(false, r.name(), r.len()),
-        item::OWN => Token::Part(false, title, len),
-        item::VALUE => Token::Word(first_word(r.kind(), r.code())),
-        item::FIRST => Token::Word(first_word(r.kind(), r.code())),
-        item::FIRST_KEY => Token::Word(first_word(r.kind(), r.code())),
-        item::NO_NAME => Token::Nothing,
+        item::X => Some(Token::Number(r.x())),
+        item::Y => Some(Token::Number(r.y())),
+        item::NAME => Some(Token::Name(r.name(), r.len())),
+        item::OWN => Some(Token::Name(f.title, f.len)),
+        item::VALUE => Some(Token::Word(first_word(r.kind(), r.code()))),
+        item::FIRST => Some(Token::Word(first_word(r.kind(), r.code()))),
+        item::FIRST_KEY => Some(Token::Word(first_word(r.kind(), r.code()))),
+        item::NO_NAME => None,
         _ => rest_in(it, r.kind(), r.code()),
     }
 }
 
 // The second word of a value, and below it the bytes that no row has, which stand for a `;`.
-fn rest_in(it: u64, kind: u8, code: u8) -> Token
-    ensures low { it < 16 → (s label : List ℕ) (r : Plain) → says label r semi ≡ as_token s result }
-    ensures high { 16 ≤ it → (s label : List ℕ) (r : Plain) → r.kind ≡ kind → r.code ≡ code → says label r second ≡ as_token s result }
+fn rest_in(it: u64, kind: u8, code: u8) -> Option<Token>
+    ensures low { it < 16 → (s label : List ℕ) (r : Plain) → says label r semi ≡ all_said s result }
+    ensures high { 16 ≤ it → (s label : List ℕ) (r : Plain) → r.kind ≡ kind → r.code ≡ code → says label r second ≡ all_said s result }
 {
     if it < item::NO_NAME {
-        return Token::Semicolon;
+        return Some(Token::Semicolon);
     }
     second_in(kind, code)
 }
 
-fn second_in(kind: u8, code: u8) -> Token
-    ensures { (s label : List ℕ) (r : Plain) → r.kind ≡ kind → r.code ≡ code → says label r second ≡ as_token s result }
+fn second_in(kind: u8, code: u8) -> Option<Token>
+    ensures { (s label : List ℕ) (r : Plain) → r.kind ≡ kind → r.code ≡ code → says label r second ≡ all_said s result }
 {
     let k = second_word(kind, code);
-    if k == 0 {
-        Token::Nothing
-    } else {
-        Token::Word(k)
-    }
+    if k == 0 { None } else { Some(Token::Word(k)) }
 }
 
 // The number of a key word.
@@ -182,14 +142,12 @@ fn after(text: &[u8], it: u64, rest: u64, r: Record) -> u64
 fn shown(text: &[u8], items: u64, n: u64, r: Record) -> bool
     ensures { result ≡ any (shows (bare text.now r)) (take n (items_of items)) }
 {
-    let mut s = items;
-    let mut m = n;
-    while m != 0 {
-        if one_shown(text, s % 256, r) {
+    let mut left = items;
+    for _ in 0..n {
+        if one_shown(text, left % 256, r) {
             return true;
         }
-        s /= 256;
-        m -= 1;
+        left /= 256;
     }
     false
 }

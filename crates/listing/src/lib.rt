@@ -2,95 +2,113 @@
 // speak: `list` has none, and `answer` says only what it returns.
 #![tactic(auto)]
 
-ghost use Rattle.std.specs.Prelude.{◌≡◌, eqb};
+ghost use Rattle.std.specs.Prelude.{◌≡◌, IfOk, vec_len};
+ghost use Rattle.std.specs.Result.{result_ok};
 
-use file::Found;
 use reader::reading;
 use record::Record;
 use refusal::Refusal;
-use vectors::say;
+use std::alloc::{AllocError, Global};
+use std::{fmt, io};
+use vectors::say::Answer;
 
-// The listing of a text: a record on a line, and then how many there are; or the refusal.
-pub fn list(text: &[u8]) {
-    let mut records = [0u8; 65520];
-    let a = reading::read(text, &mut records);
-    if answer(a, &records, b"\n") {
-        if a.place != 0 {
-            say::newline();
-        }
-        say::number(a.place as u64);
-        say::text(b"records");
-    }
-    say::newline();
+// The listing of a text: a record on a line, and then how many there are; or the refusal. What cannot be printed is lost.
+pub fn list(rt: &(impl Print + AllocGlobal), text: &[u8]) {
+    let _ = lines(rt, text);
 }
 
-// The records that an answer counts, with the mark between them, or the refusal. Says whether the text was read.
-pub fn answer(a: Refusal, records: &[u8], mark: &[u8]) -> bool
-    ensures { result ≡ eqb a.number 0 }
+fn lines(rt: &(impl Print + AllocGlobal), text: &[u8]) -> io::Result<()> {
+    let mut records = vec![in rt.alloc(); 0; 65520]?;
+    let read = reading::read(text, &mut records);
+    show(rt, read, &records, "\n")?;
+    if let Ok(count) = read {
+        if count != 0 {
+            println!(rt)?;
+        }
+        print!(rt; "{count} records")?;
+    }
+    println!(rt)
+}
+
+// The records that are read, with the mark between them, or the refusal. Says how many are read; what cannot be printed is lost.
+pub fn answer(
+    rt: &(impl Print + AllocGlobal),
+    read: Result<usize, Refusal>,
+    records: &[u8],
+    mark: &str,
+) -> Option<usize>
+    ensures { result ≡ result_ok read }
 {
-    let read = a.number == Refusal::DONE;
-    if read {
-        first(a.place, records, mark);
-    } else {
-        refusal(a);
-    }
-    read
+    let _ = show(rt, read, records, mark);
+    read.ok()
 }
 
-// The records that are counted, from the first on, with the mark between them.
-fn first(count: usize, records: &[u8], mark: &[u8]) {
-    let mut i = 0;
-    while i < count {
+fn show(
+    rt: &(impl Print + AllocGlobal),
+    read: Result<usize, Refusal>,
+    records: &[u8],
+    mark: &str,
+) -> io::Result<()> {
+    match read {
+        Ok(count) => first(rt, count, records, mark),
+        Err(refusal) => print!(rt; "refusal {}", Answer(Err(refusal))),
+    }
+}
+
+// The records that are counted, with the mark between them.
+fn first(
+    rt: &(impl Print + AllocGlobal),
+    count: usize,
+    records: &[u8],
+    mark: &str,
+) -> io::Result<()> {
+    for (i, record) in counted(rt.alloc(), count, records)?.iter().enumerate() {
         if i != 0 {
-            say::text(mark);
+            rt.print(mark)?;
         }
-        found(file::read(records, i));
-        i += 1;
+        match record {
+            Some(r) => print!(rt; "{}", Listed(*r))?,
+            None => print!(rt; "past")?,
+        }
     }
+    Ok(())
 }
 
-fn refusal(a: Refusal) {
-    say::text(b"refusal ");
-    say::number(a.number as u64);
-    say::number(a.place as u64);
-    io::print_decimal(1, a.line as u64);
+// The records that are counted, each if it is there.
+fn counted(alloc: Global, count: usize, records: &[u8]) -> Result<Vec<Option<Record>>, AllocError>
+    ensures { IfOk result (λ v. vec_len v ≡ count) }
+{
+    (0..count).map(|i| file::read(records, i)).collect(alloc)
 }
 
-fn found(f: Found) {
-    match f {
-        Found::At(r) => record(r),
-        Found::Past => say::text(b"past"),
-    }
-}
+// Kind, code, place, owner or `-` for the library, name start, name length, x and y.
+#[derive(Clone, Copy)]
+struct Listed(Record);
 
-// Kind, code, place, owner, name start, name length, x and y.
-fn record(r: Record) {
-    say::number(r.kind() as u64);
-    say::number(r.code() as u64);
-    say::number(r.at() as u64);
-    owner(r.owner());
-    say::number(r.name() as u64);
-    say::number(r.len() as u64);
-    signed(r.x());
-    say::text(b" ");
-    signed(r.y());
-}
-
-// The owner, or `-` for the library.
-fn owner(place: usize) {
-    if place == Record::LIBRARY {
-        say::text(b"- ");
-    } else {
-        say::number(place as u64);
+impl fmt::Display for Listed {
+    fn fmt<W: fmt::Write>(&self, f: &mut fmt::Formatter<W>) -> fmt::Result {
+        let r = self.0;
+        write!(f, "{} {} {} ", r.kind(), r.code(), r.at())?;
+        match r.owner() {
+            Record::LIBRARY => write!(f, "- ")?,
+            owner => write!(f, "{owner} ")?,
+        }
+        write!(f, "{} {} ", r.name(), r.len())?;
+        write!(f, "{} {}", Signed(r.x()), Signed(r.y()))
     }
 }
 
 // A number as a record stores it.
-fn signed(v: u64) {
-    if v < 9223372036854775808 {
-        io::print_decimal(1, v);
-    } else {
-        say::text(b"-");
-        io::print_decimal(1, 18446744073709551615 - v + 1);
+#[derive(Clone, Copy)]
+struct Signed(u64);
+
+impl fmt::Display for Signed {
+    fn fmt<W: fmt::Write>(&self, f: &mut fmt::Formatter<W>) -> fmt::Result {
+        let v = self.0;
+        if v < 1 << 63 {
+            write!(f, "{v}")
+        } else {
+            write!(f, "-{}", u64::MAX - v + 1)
+        }
     }
 }

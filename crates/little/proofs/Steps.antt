@@ -1,10 +1,11 @@
--- One turn of each loop, what a byte more adds to a number and to the bytes of one; and words byte by byte.
-use Prim.Native.Nat.{ℕ, suc, ◌+◌, ◌-◌, ◌*◌, ◌/◌, ◌%◌, ◌^◌, ◌≤◌, ◌<◌}
+-- One turn of each loop, what a byte more adds to a number and to the bytes of one; where each ends; and words byte by byte.
+use Prim.Native.Nat.{ℕ, zero, suc, ◌+◌, ◌-◌, ◌*◌, ◌/◌, ◌%◌, ◌^◌, ◌≤◌, ◌<◌}
 use mathlib.Core.Path.{◌≡◌, refl}
-use mathlib.Core.List.{List, ◌∷◌}
+use mathlib.Core.List.{List, [], ◌∷◌}
 use native.Mathlib.Nat.{pow-suc, pow-le-pow_right}
 use native.Mathlib.Omega.{arith}
-use lib.ListN.{take, drop, get_or}
+use lib.ListN.{length, take, drop, get_or, drop_of_length-le}
+use lib.Seq.{sets, set_out}
 use Rattle.little.specs.Little.{little, number}
 use Rattle.little.proofs.Laws.{stretch}
 
@@ -14,6 +15,23 @@ unfolding little
 next n i v h =
     let e : n - i ≡ suc (n - (i + 1)) = omega arith in
     rw e
+
+-- what would stand past the end is left out
+past_end : (xs l : List ℕ) (p : ℕ) → length l ≤ p → sets l p xs ≡ l
+past_end [] l p h = refl
+past_end (x ∷ xs) l p h = rw (set_out l p x h) (past_end xs l (suc p) (omega arith))
+
+-- where no low bytes are left, or the next would stand past the end, all is laid
+pub ended : (l : List ℕ) (p n v : ℕ) → (0 < n → length l ≤ p) → sets l p (little n v) ≡ l
+unfolding little
+ended l p zero v h = refl
+ended l p (suc n) v h = past_end (little (suc n) v) l p (h (omega arith))
+
+-- where no bytes are to be read, or the next would stand past the end, the number is nought
+pub nothing : (l : List ℕ) (p n : ℕ) → (0 < n → length l ≤ p) → number (take n (drop p l)) ≡ 0
+unfolding number
+nothing l p zero h = refl
+nothing l p (suc n) h = rw (drop_of_length-le l (h (omega arith)))
 
 -- the number of a stretch that starts one byte earlier
 pub earlier : (n i place : ℕ) (l : List ℕ) → 0 < i → i ≤ n

@@ -7,11 +7,23 @@ use mathlib.Core.Option.{some, none}
 use native.Mathlib.Omega.{arith}
 use borrow.Author.Count.{below_more}
 use lib.ListN.{length, get_elem?}
+use Rattle.std.specs.Prelude as Prelude
+use Rattle.std.specs.Prelude.{Some, None}
+use Rattle.std.specs.Option.{option_map}
 use Rattle.record.specs.declared.Record.{Record}
 use Rattle.file.specs.File.{held, record_in}
-use Rattle.lookup.specs.Force.{latest}
+use Rattle.lookup.specs.Force.{latest, told}
 use Rattle.file.proofs.Held.{held_here, held_below, held_is}
 use Rattle.lookup.proofs.Force.{is_latest, no_latest}
+
+-- the index of the best so far, and the number that is above its `at`; nought where there is none
+abbrev pub index_of : Prelude.Option (ℕ × ℕ) → ℕ
+index_of None = 0
+index_of (Some b) = b.0
+
+abbrev pub above_of : Prelude.Option (ℕ × ℕ) → ℕ
+above_of None = 0
+above_of (Some b) = b.1 + 1
 
 -- of the first i records those that pass stand below `above`, and if that is not nought the best is the first that stands highest
 pub record Best (p : Record → Bool) (f : ℕ → Record) (i best above : ℕ) : Type 0 where
@@ -58,7 +70,7 @@ module _ (p : Record → Bool) (f : ℕ → Record) where
   }
 
 module _ (p : Record → Bool) (file : List ℕ) (best above : ℕ) (b : Best p (record_in file) (length file / 36) best above) where
-  pub some_best : 0 < above → latest p (held file) ≡ some best
+  some_best : 0 < above → latest p (held file) ≡ some best
   some_best h =
       let top : (record_in file best).at + 1 ≡ above = b.highest h in
       is_latest p (held file) best (record_in file best) (record {
@@ -74,7 +86,7 @@ module _ (p : Record → Bool) (file : List ℕ) (best above : ℕ) (b : Best p 
             omega arith;
       })
 
-  pub no_best : above ≡ 0 → latest p (held file) ≡ none
+  no_best : above ≡ 0 → latest p (held file) ≡ none
   no_best z = no_latest p (held file) (λ k s e. go s (p s) refl (λ q. no k s e q))
     where
       no : (k : ℕ) (s : Record) → get_elem? (held file) k ≡ some s → p s ≡ true → ⊥
@@ -85,3 +97,9 @@ module _ (p : Record → Bool) (file : List ℕ) (best above : ℕ) (b : Best p 
       go : (s : Record) (x : Bool) → p s ≡ x → (p s ≡ true → ⊥) → p s ≡ false
       go s true e f = absurd (f e)
       go s false e f = e
+
+-- at the end of the file the best is the latest
+pub best_told : (p : Record → Bool) (file : List ℕ) (best : Prelude.Option (ℕ × ℕ)) → Best p (record_in file) (length file / 36) (index_of best) (above_of best)
+    → option_map (λ (b : ℕ × ℕ). b.0) best ≡ told (latest p (held file))
+best_told p file None b = rw (no_best p file 0 0 b refl)
+best_told p file (Some e) b = rw (some_best p file e.0 (e.1 + 1) b (omega arith))

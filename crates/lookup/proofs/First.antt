@@ -3,7 +3,7 @@ use Prim.Native.Nat.{ℕ, zero, suc, max, ◌≤◌, ◌<◌}
 use mathlib.Core.Path.{◌≡◌, refl}
 use mathlib.Core.Bool.{Bool, true, false, cond}
 use mathlib.Core.List.{List, [], ◌∷◌}
-use mathlib.Core.Option.{some, none, none-ne-some}
+use mathlib.Core.Option.{Option, some, none, map, none-ne-some, some-injective}
 use native.Mathlib.Omega.{arith}
 use lib.ListN.{get_elem?}
 use Rattle.record.specs.declared.Record.{Record}
@@ -29,6 +29,23 @@ module _ (p : Record → Bool) where
   no_first (s ∷ rs) f =
       let e : p s ≡ false = f 0 s refl in
       rw (e, no_first rs (λ k t g. f (suc k) t g))
+
+  -- where the first is, there is a record
+  pub first_there : (rs : List Record) (i : ℕ) → first p rs ≡ some i → (r : Record) × (get_elem? rs i ≡ some r)
+  unfolding first
+  first_there [] i h = absurd (none-ne-some i h)
+  first_there (s ∷ rs) i h = go (p s) (first p rs) refl h (first_there rs)
+    where
+      go : (b : Bool) (o : Option ℕ) → first p rs ≡ o → cond b (some 0) (map suc o) ≡ some i
+          → ((k : ℕ) → first p rs ≡ some k → (r : Record) × (get_elem? rs k ≡ some r)) → (r : Record) × (get_elem? (s ∷ rs) i ≡ some r)
+      go true o e h f =
+          let z : 0 ≡ i = some-injective 0 i h in
+          (s, rw (← z) refl)
+      go false none e h f = absurd (none-ne-some i h)
+      go false (some k) e h f =
+          let z : suc k ≡ i = some-injective (suc k) i h in
+          let w = f k e in
+          (w.0, rw (← z) w.1)
 
   -- a record that passes has no greater `at` than the greatest
   pub at_most : (rs : List Record) (k : ℕ) (s : Record) → get_elem? rs k ≡ some s → p s ≡ true → s.at ≤ greatest p rs

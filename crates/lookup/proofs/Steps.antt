@@ -1,44 +1,42 @@
--- A step up the chain of owners, by the numbers that the code has: the record's `at` and owner, and the index of the owner.
+-- A step up the chain of owners: none where the owner is not below or lacks, and else one more than the owner has.
 use Prim.Native.Nat.{ℕ, ◌+◌, ◌/◌, ◌≤◌, ◌<◌}
-use mathlib.Core.Path.{◌≡◌, ap, ◌∙◌}
+use mathlib.Core.Path.{◌≡◌}
 use mathlib.Core.List.{List}
-use mathlib.Core.Option.{get_or}
 use native.Mathlib.Omega.{arith}
 use lib.ListN.{length}
+use Rattle.std.specs.Prelude.{Option, Some, None}
 use Rattle.record.specs.declared.Record.{Record}
 use Rattle.file.specs.File.{held, record_in}
 use Rattle.lookup.specs.First.{first}
+use Rattle.lookup.specs.Force.{told}
 use Rattle.lookup.specs.Chain.{is_at, owners_of}
 use Rattle.lookup.proofs.Owned.{owner_below, not_below, no_owner, one_owner}
-use Rattle.lookup.proofs.Search.{owner_there, owner_lacks}
+use Rattle.lookup.proofs.Search.{owner_there, owner_inside, owner_lacks}
 
-module _ (file : List ℕ) (r : Record) (at owner count : ℕ) (at-is : at ≡ r.at) (owner-is : owner ≡ r.owner) where
+module _ (file : List ℕ) (r : Record) (count : ℕ) where
   -- the owner is not below
-  pub ended : at ≤ owner → count ≡ count + owners_of (held file) r
+  pub ended : r.at ≤ r.owner → count ≡ count + owners_of (held file) r
   ended h =
-      let z = no_owner (held file) r (not_below (held file) r (omega arith)) in
+      let z = no_owner (held file) r (not_below (held file) r h) in
       omega arith
 
-  module _ (next : ℕ) (below : owner < at) (next-is : next ≡ get_or (first (is_at owner) (held file)) (length file / 36)) where
-    found : next ≡ get_or (first (is_at r.owner) (held file)) (length file / 36)
-    found = next-is ∙ ap (λ (o : ℕ). get_or (first (is_at o) (held file)) (length file / 36)) owner-is
-
-    less : r.owner < r.at
-    less = omega arith
-
+  module _ (below : r.owner < r.at) (next : Option ℕ) (is : next ≡ told (first (is_at r.owner) (held file))) where
     -- no record is the owner
-    pub lacks : length file / 36 ≤ next → count ≡ count + owners_of (held file) r
-    lacks h =
-        let z = no_owner (held file) r (owner_lacks file r next less found h) in
+    pub lacks : next ≡ None → count ≡ count + owners_of (held file) r
+    lacks e =
+        let z = no_owner (held file) r (owner_lacks file r below next is e) in
         omega arith
 
-    module _ (there : next < length file / 36) where
+    module _ (i : ℕ) (e : next ≡ Some i) where
+      pub inside : i < length file / 36
+      inside = owner_inside file r below next is i e
+
       -- the owner's `at` is less
-      pub lower : (record_in file next).at < r.at
-      lower = owner_below (held file) r (record_in file next) (owner_there file r next less found there)
+      pub lower : (record_in file i).at < r.at
+      lower = owner_below (held file) r (record_in file i) (owner_there file r below next is i e)
 
       -- and it has one owner less
-      pub further : (all : ℕ) → all ≡ count + 1 + owners_of (held file) (record_in file next) → all ≡ count + owners_of (held file) r
-      further all e =
-          let z = one_owner (held file) r (record_in file next) (owner_there file r next less found there) in
+      pub further : (all : ℕ) → all ≡ count + 1 + owners_of (held file) (record_in file i) → all ≡ count + owners_of (held file) r
+      further all h =
+          let z = one_owner (held file) r (record_in file i) (owner_there file r below next is i e) in
           omega arith

@@ -1,12 +1,12 @@
 -- The chain of owners, from a record out to the library.
-use Rattle.std.specs.Prelude.{ℕ, zero, suc, Bool, cond, List, eqb, ltb, length}
+use Rattle.std.specs.Prelude.{ℕ, zero, suc, Bool, cond, List, eqb, ltb, length, Result, Ok, Err}
+use Rattle.std.specs.Prelude as std
 use Rattle.std.proofs.Math.Option.{Option, none, some}
 use Rattle.std.proofs.Math.ListN.{get_elem?}
+use Rattle.refusal.specs.declared.Refusal.{Refusal}
 use Rattle.refusal.specs.Table.{refused, not_whole}
 use Rattle.record.specs.declared.Record.{Record}
-use Rattle.file.specs.declared.Found.{Found}
 use Rattle.file.specs.File.{held, whole, record_at}
-use Rattle.lookup.specs.declared.Chain.{Chain}
 use Rattle.lookup.specs.First.{first}
 
 abbrev pub is_at : ℕ → Record → Bool
@@ -36,14 +36,14 @@ unfoldable pub owners_of : List Record → Record → ℕ
 owners_of rs r = within r.at rs r
 
 -- the same of the record that stands at an index, and 0 past the file
-abbrev pub owners_found : List Record → Found → ℕ
-owners_found rs (Found.At r) = owners_of rs r
-owners_found rs Found.Past = 0
+abbrev pub owners_found : List Record → std.Option Record → ℕ
+owners_found rs (std.Some r) = owners_of rs r
+owners_found rs std.None = 0
 
 -- the answer: 13 for bytes that are no whole number of records; else how many owners were found
-unfoldable pub owners : List ℕ → ℕ → Chain
+unfoldable pub owners : List ℕ → ℕ → Result ℕ Refusal
 owners file index =
-    cond (whole file) (Chain.Count (owners_found (held file) (record_at file index))) (Chain.Refused (refused not_whole (length file) 0))
+    cond (whole file) (Ok (owners_found (held file) (record_at file index))) (Err (refused not_whole (length file) 0))
 
 -- the numbers of an answer: refusal, place and line, then the count
 pub record Numbers : Type 0 where
@@ -52,6 +52,6 @@ pub record Numbers : Type 0 where
   pub line : ℕ
   pub count : ℕ
 
-abbrev pub numbers : Chain → Numbers
-numbers (Chain.Count n) = record { refusal = 0; place = 0; line = 0; count = n }
-numbers (Chain.Refused r) = record { refusal = r.number; place = r.place; line = r.line; count = 0 }
+abbrev pub numbers : Result ℕ Refusal → Numbers
+numbers (Ok n) = record { refusal = 0; place = 0; line = 0; count = n }
+numbers (Err r) = record { refusal = r.number; place = r.place; line = r.line; count = 0 }

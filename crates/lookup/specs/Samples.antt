@@ -1,5 +1,5 @@
 -- Worked examples of the look-ups, each computed from the definitions.
-use Rattle.std.specs.Prelude.{ℕ, ◌≡◌, refl, List, [], ◌∷◌, ◌++◌, replicate}
+use Rattle.std.specs.Prelude.{ℕ, ◌≡◌, refl, List, [], ◌∷◌, ◌++◌, replicate, Some, None, Ok, Err}
 use Rattle.text.specs.Text.{bytes}
 use Rattle.refusal.specs.Table.{refused, not_whole}
 use Rattle.little.specs.Little.{little, number}
@@ -8,8 +8,6 @@ use Rattle.record.specs.Bytes.{encoded, decoded}
 use Rattle.record.specs.Made.{bare, coded, named, valued, library}
 use Rattle.record.specs.Kinds.{SITE, MACRO, PIN, PORT, LAYER, LAYER_OPTION, WIDTH, EXCEPTPGNET, SPACING, DESIGNRULEWIDTH}
 use Rattle.file.specs.File.{encoded_all, record_at}
-use Rattle.lookup.specs.declared.InForce.{InForce}
-use Rattle.lookup.specs.declared.Chain.{Chain}
 use Rattle.lookup.specs.First.{first, greatest}
 use Rattle.lookup.specs.Force.{asked, latest, in_force}
 use Rattle.lookup.specs.Name.{part, name_at}
@@ -26,19 +24,19 @@ options = encoded_all (
     )
 
 pub record InForceSamples : Type 0 where
-  pub first_of_two : in_force widths 40 WIDTH 0 ≡ InForce.At 1
-  pub code_unused : in_force widths 40 WIDTH 7 ≡ InForce.At 1
-  pub of_its_owner : in_force widths 80 WIDTH 0 ≡ InForce.At 3
-  pub no_owner : in_force widths 41 WIDTH 0 ≡ InForce.None
-  pub spacing : in_force options 40 LAYER_OPTION SPACING ≡ InForce.At 0
-  pub design_rule_width : in_force options 40 LAYER_OPTION DESIGNRULEWIDTH ≡ InForce.At 0
-  pub except_pg_net : in_force options 40 LAYER_OPTION EXCEPTPGNET ≡ InForce.At 2
-  pub no_option : in_force options 40 LAYER_OPTION 0 ≡ InForce.None
-  pub no_code : in_force options 40 LAYER_OPTION 9 ≡ InForce.None
-  pub all_count : in_force (encoded_all (named SITE 0 library 5 1 ∷ [])) library SITE 0 ≡ InForce.None
-  pub unknown_kind : in_force (encoded_all (bare 200 0 library ∷ [])) library 200 0 ≡ InForce.At 0
-  pub empty_file : in_force [] library WIDTH 0 ≡ InForce.None
-  pub cut_file : in_force (replicate 35 0) library WIDTH 0 ≡ InForce.Refused (refused not_whole 35 0)
+  pub first_of_two : in_force widths 40 WIDTH 0 ≡ Ok (Some 1)
+  pub code_unused : in_force widths 40 WIDTH 7 ≡ Ok (Some 1)
+  pub of_its_owner : in_force widths 80 WIDTH 0 ≡ Ok (Some 3)
+  pub no_owner : in_force widths 41 WIDTH 0 ≡ Ok None
+  pub spacing : in_force options 40 LAYER_OPTION SPACING ≡ Ok (Some 0)
+  pub design_rule_width : in_force options 40 LAYER_OPTION DESIGNRULEWIDTH ≡ Ok (Some 0)
+  pub except_pg_net : in_force options 40 LAYER_OPTION EXCEPTPGNET ≡ Ok (Some 2)
+  pub no_option : in_force options 40 LAYER_OPTION 0 ≡ Ok None
+  pub no_code : in_force options 40 LAYER_OPTION 9 ≡ Ok None
+  pub all_count : in_force (encoded_all (named SITE 0 library 5 1 ∷ [])) library SITE 0 ≡ Ok None
+  pub unknown_kind : in_force (encoded_all (bare 200 0 library ∷ [])) library 200 0 ≡ Ok (Some 0)
+  pub empty_file : in_force [] library WIDTH 0 ≡ Ok None
+  pub cut_file : in_force (replicate 35 0) library WIDTH 0 ≡ Err (refused not_whole 35 0)
 
 pub in_force_lem : InForceSamples
 unfolding in_force latest first greatest asked front joined encoded decoded little number
@@ -82,15 +80,15 @@ abbrev odd : List ℕ
 odd = encoded_all (bare PORT 5 9 ∷ bare PORT 9 5 ∷ bare PORT 7 7 ∷ bare PORT 8 6 ∷ bare PORT 4 library ∷ bare PORT 11 9 ∷ bare PORT 9 3 ∷ [])
 
 pub record OwnersSamples : Type 0 where
-  pub to_the_library : owners nested 0 ≡ Chain.Count 3
-  pub of_the_library : owners nested 1 ≡ Chain.Count 0
-  pub past_the_file : owners nested 4 ≡ Chain.Count 0
-  pub not_below : owners odd 0 ≡ Chain.Count 0
-  pub cycle : owners odd 1 ≡ Chain.Count 1
-  pub its_own_owner : owners odd 2 ≡ Chain.Count 0
-  pub owner_lacking : owners odd 3 ≡ Chain.Count 0
-  pub first_of_two : owners odd 5 ≡ Chain.Count 2
-  pub cut_file : owners (replicate 37 0) 0 ≡ Chain.Refused (refused not_whole 37 0)
+  pub to_the_library : owners nested 0 ≡ Ok 3
+  pub of_the_library : owners nested 1 ≡ Ok 0
+  pub past_the_file : owners nested 4 ≡ Ok 0
+  pub not_below : owners odd 0 ≡ Ok 0
+  pub cycle : owners odd 1 ≡ Ok 1
+  pub its_own_owner : owners odd 2 ≡ Ok 0
+  pub owner_lacking : owners odd 3 ≡ Ok 0
+  pub first_of_two : owners odd 5 ≡ Ok 2
+  pub cut_file : owners (replicate 37 0) 0 ≡ Err (refused not_whole 37 0)
 
 pub chains : OwnersSamples
 unfolding owners owners_of within first front record_at joined encoded decoded little number

@@ -8,168 +8,84 @@
 //                             record and of its first
 #![tactic(auto)]
 
-use lookup::{Chain, InForce};
 use record::Record;
-use vectors::{hex, plain, say};
+use std::io;
+use vectors::say::{Answer, Found, Numbers};
+use vectors::{hex, plain};
 
-fn main() {
-    let mut input = vectors::input();
-    let n = io::read_full(0, &mut input);
-    lines(&input[..n]);
+// The bytes of a text or a file that are looked at.
+const MOST: usize = 4096;
+
+// The records of a chain at the most.
+const LONGEST: usize = 50000;
+
+fn main(rt: HostRuntime) -> io::Result<()> {
+    vectors::for_each_line(&rt, |letter, fields| answer(&rt, letter, fields))
 }
 
-fn lines(input: &[u8]) {
-    let mut at = 0;
-    while at < input.len() {
-        let stop = vectors::next_of(b'\n', input, at);
-        line(&input[at..stop]);
-        at = stop + 1;
-    }
-}
-
-fn line(part: &[u8]) {
-    if part.len() == 0 {
-        return;
-    }
-    let letter = part[0];
+fn answer(rt: &(impl Print + AllocGlobal), letter: u8, fields: &[u8]) -> io::Result<()> {
     match letter {
-        b'f' => force(&part[1..]),
-        b'n' => names(&part[1..]),
-        b'o' => owners(&part[1..]),
-        b'u' => long(count(&part[1..]), false),
-        b'd' => long(count(&part[1..]), true),
-        _ => say::text(b"?"),
-    }
-    say::newline();
-}
-
-fn force(fields: &[u8]) {
-    if fields.len() < 23 {
-        return;
-    }
-    let mut owner = [0u8; 8];
-    let mut kind = [0u8; 1];
-    let mut code = [0u8; 1];
-    let mut file = [0u8; 4096];
-    hex::bytes(&fields[0..16], &mut owner);
-    hex::bytes(&fields[17..19], &mut kind);
-    hex::bytes(&fields[20..22], &mut code);
-    let n = hex::bytes(&fields[23..], &mut file);
-    in_force(
-        &file[0..n],
-        little::number(&owner, 0, 8) as usize,
-        kind[0],
-        code[0],
-    );
-}
-
-fn in_force(file: &[u8], owner: usize, kind: u8, code: u8) {
-    match lookup::in_force(file, owner, kind, code) {
-        InForce::At(i) => five(0, 0, 0, 1, i),
-        InForce::None => five(0, 0, 0, 0, 0),
-        InForce::Refused(r) => five(r.number, r.place, r.line, 0, 0),
+        b'f' => in_force(rt, fields),
+        b'n' => names(rt, fields),
+        b'o' => owners(rt, fields),
+        b'u' => chain(rt, fields, false),
+        b'd' => chain(rt, fields, true),
+        _ => print!(rt; "?"),
     }
 }
 
-fn five(refusal: usize, place: usize, line: usize, found: u64, index: usize) {
-    say::number(refusal as u64);
-    say::number(place as u64);
-    say::number(line as u64);
-    say::number(found);
-    say::number(index as u64);
+fn in_force(rt: &(impl Print + AllocGlobal), fields: &[u8]) -> io::Result<()> {
+    let Some((given, digits)) = fields.split_first_chunk::<23>() else {
+        return Ok(());
+    };
+    let owner = u64::from_le_bytes(hex::array(&given[0..16])) as usize;
+    let [kind] = hex::array::<1>(&given[17..19]);
+    let [code] = hex::array::<1>(&given[20..22]);
+    let file = hex::decoded(rt.alloc(), digits, MOST)?;
+    print!(rt; "{} ", Found(lookup::in_force(&file, owner, kind, code)))
 }
 
-fn names(fields: &[u8]) {
-    let mut text = [0u8; 4096];
-    let mut file = [0u8; 4096];
-    let stop = vectors::next_of(b'|', fields, 0);
-    if stop < fields.len() {
-        let n = plain::bytes(&fields[0..stop], &mut text);
-        let next = stop + 1;
-        let m = hex::bytes(&fields[next..], &mut file);
-        all_names(&text[0..n], &file[0..m]);
+fn names(rt: &(impl Print + AllocGlobal), fields: &[u8]) -> io::Result<()> {
+    let Some((text, file)) = vectors::cut(b'|', fields) else {
+        return Ok(());
+    };
+    let text = plain::decoded(rt.alloc(), text, MOST)?;
+    let file = hex::decoded(rt.alloc(), file, MOST)?;
+    for i in 0..=file.len() / Record::SIZE {
+        let name = lookup::name(&text, &file, i);
+        print!(rt; ";{} {}", name.len(), Numbers(name))?;
     }
+    Ok(())
 }
 
-fn all_names(text: &[u8], file: &[u8]) {
-    let mut i = 0;
-    while i <= file.len() / 36 {
-        one_name(lookup::name(text, file, i));
-        i += 1;
+fn owners(rt: &(impl Print + AllocGlobal), digits: &[u8]) -> io::Result<()> {
+    let file = hex::decoded(rt.alloc(), digits, MOST)?;
+    for i in 0..=file.len() / Record::SIZE {
+        owners_of(rt, &file, i)?;
     }
+    Ok(())
 }
 
-fn one_name(name: &[u8]) {
-    say::text(b";");
-    say::number(name.len() as u64);
-    say::bytes(name);
-}
-
-fn owners(field: &[u8]) {
-    let mut file = [0u8; 4096];
-    let n = hex::bytes(field, &mut file);
-    chains(&file[0..n]);
-}
-
-fn chains(file: &[u8]) {
-    let mut i = 0;
-    while i <= file.len() / 36 {
-        one_chain(file, i);
-        i += 1;
-    }
-}
-
-fn one_chain(file: &[u8], index: usize) {
-    say::text(b";");
+fn owners_of(rt: &impl Print, file: &[u8], index: usize) -> io::Result<()> {
     match lookup::owners(file, index) {
-        Chain::Count(n) => four(0, 0, 0, n),
-        Chain::Refused(r) => four(r.number, r.place, r.line, 0),
+        Ok(count) => print!(rt; ";0 0 0 {count} "),
+        Err(refusal) => print!(rt; ";{} 0 ", Answer(Err(refusal))),
     }
 }
 
-fn four(refusal: usize, place: usize, line: usize, count: usize) {
-    say::number(refusal as u64);
-    say::number(place as u64);
-    say::number(line as u64);
-    say::number(count as u64);
-}
-
-fn count(field: &[u8]) -> usize {
-    let mut bytes = [0u8; 4];
-    hex::bytes(field, &mut bytes);
-    little::number(&bytes, 0, 4) as usize
-}
-
-// A chain of at most 50,000 records.
-fn long(count: usize, falling: bool) {
-    let mut file = [0u8; 1800000];
-    chain(&mut file, count, falling);
-}
-
-fn chain(file: &mut [u8], count: usize, falling: bool) {
-    if file.len() / 36 < count {
-        return;
+// Each record has the one that starts before it for its owner, and the first the library. Two letters differ in `falling` alone, and a closure
+// for the index would be no plainer.
+fn chain(rt: &(impl Print + AllocGlobal), digits: &[u8], falling: bool) -> io::Result<()> {
+    let count = u32::from_le_bytes(hex::array(digits)) as usize;
+    if count == 0 || LONGEST < count {
+        return Ok(());
     }
-    link(file, count, falling);
-    let stop = 36 * count;
-    ends(&file[0..stop], count);
-}
-
-// Each record has the one that starts before it for its owner, and the first the library.
-fn link(file: &mut [u8], count: usize, falling: bool) {
-    let mut k = 0;
-    while k < count {
+    let mut file = vec![in rt.alloc(); 0; Record::SIZE * count]?;
+    for k in 0..count {
         let index = if falling { count - 1 - k } else { k };
-        let owner = if k == 0 { Record::LIBRARY } else { k - 1 };
-        file::put(Record::port(k, owner), file, index);
-        k += 1;
+        let owner = k.checked_sub(1).unwrap_or(Record::LIBRARY);
+        file::put(Record::port(k, owner), &mut file, index);
     }
-}
-
-fn ends(file: &[u8], count: usize) {
-    if count == 0 {
-        return;
-    }
-    one_chain(file, count - 1);
-    one_chain(file, 0);
+    owners_of(rt, &file, count - 1)?;
+    owners_of(rt, &file, 0)
 }

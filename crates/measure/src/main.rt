@@ -3,70 +3,39 @@
 // follows it, and is checked against the text as often.
 #![tactic(auto)]
 
-ghost use Rattle.std.specs.Prelude.{◌≡◌, IfOk, vec_len};
-
 use reader::reading;
 use refusal::Refusal;
-use std::alloc::{AllocError, Global};
-use vectors::say;
+use std::io;
 
-fn main(rt: HostRuntime) -> Result<(), AllocError> {
-    let mut input = room(rt.alloc())?;
-    let n = io::read_full(0, &mut input);
-    measure(&input[..n]);
-    Ok(())
+// The longest text that the library reads, with the line before it, and a million records.
+const LONGEST: usize = 54800000;
+
+fn main(rt: HostRuntime) -> io::Result<()> {
+    let input = vectors::read(vec![in rt.alloc(); 0; LONGEST]?);
+    let Some((times, given)) = vectors::cut(b'\n', &input) else {
+        return Ok(());
+    };
+    let answer = match vectors::cut(255, given) {
+        Some((text, file)) => repeated(times, || checker::check(text, file).map(|()| 0)),
+        None => repeated(times, || reading::read(given, &mut [])),
+    };
+    match answer {
+        Some(Ok(count)) => println!(rt; "0 {count} "),
+        Some(Err(refusal)) => println!(rt; "{} {} ", refusal.number, refusal.place),
+        None => Ok(()),
+    }
 }
 
-// Room for the longest text that the library reads, with the line before it, and for a million records.
-fn room(alloc: Global) -> Result<Vec<u8>, AllocError>
-    ensures { IfOk result (λ v. 54800000 ≡ vec_len v) }
+// The last answer to a call that is made as often as there are bytes.
+fn repeated<F: Fn() -> Result<usize, Refusal>>(
+    times: &[u8],
+    call: F,
+) -> Option<Result<usize, Refusal>>
+    requires { F.IsAlwaysCallable call }
 {
-    Ok(vec![in alloc; 0; 54800000]?)
-}
-
-fn measure(input: &[u8]) {
-    let times = vectors::next_of(b'\n', input, 0);
-    if times < input.len() {
-        let from = times + 1;
-        let mark = vectors::next_of(255, input, from);
-        if mark < input.len() {
-            let after = mark + 1;
-            check(times, &input[from..mark], &input[after..]);
-        } else {
-            answer(times, &input[from..]);
-        }
+    let mut last = None;
+    for _ in times {
+        last = Some(call());
     }
-}
-
-fn answer(times: usize, text: &[u8]) {
-    let mut i = 0;
-    while i < times {
-        let a = count(text);
-        i += 1;
-        if i == times {
-            said(a);
-        }
-    }
-}
-
-fn check(times: usize, text: &[u8], file: &[u8]) {
-    let mut i = 0;
-    while i < times {
-        let a = checker::check(text, file);
-        i += 1;
-        if i == times {
-            said(a);
-        }
-    }
-}
-
-fn said(a: Refusal) {
-    say::number(a.number as u64);
-    say::number(a.place as u64);
-    say::newline();
-}
-
-fn count(text: &[u8]) -> Refusal {
-    let mut nothing = [0u8; 0];
-    reading::read(text, &mut nothing)
+    last
 }

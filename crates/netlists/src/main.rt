@@ -1,8 +1,8 @@
 // Looks up all names of a netlist in one call: each line of standard input is asked as src/lib.rt of `asking` says, and answered on a line.
 #![tactic(auto)]
 
-fn main() {
-    let mut input = vectors::input();
-    let n = io::read_full(0, &mut input);
-    asking::lines(&input[..n]);
+use std::io;
+
+fn main(rt: HostRuntime) -> io::Result<()> {
+    vectors::for_each_line(&rt, |letter, fields| asking::answer(&rt, letter, fields))
 }

@@ -11,13 +11,15 @@ use lib.Dec.{leb, ltb, eqb}
 use native.Mathlib.Omega.{arith}
 use native.Mathlib.Nat.{mul-le-mul, mul-one, pow-le-pow_right, zero-sub, sub-zero, suc-sub-suc}
 use borrow.Author.Tests.{lt-leb, lt-ltb, leb-false}
-use Rattle.numeral.specs.declared.Value.TheVariants.{Not}
+use Rattle.std.specs.declared.option.Option.TheVariants.{None}
+use Rattle.std.specs.declared.option.Option.{Option}
+use Rattle.numeral.specs.declared.Scaled.{Scaled}
 use Rattle.numeral.specs.Numeral.{limit, digit, all_digits, before, after, value, bounded, spelt, unsigned_of}
 use Rattle.numeral.specs.Machine.{most, zeros_of, decimals_of, whole_of}
 use Rattle.numeral.proofs.Digits.{all_append, onward, one_more, onward_value, onward_zero, all_zeros, zeros_digits}
 use Rattle.numeral.proofs.Exact.{exact_zeros, only_exact, six}
 
-bounded_false : (neg : Bool) (m : ℕ) → limit < m → bounded neg m ≡ Not
+bounded_false : (neg : Bool) (m : ℕ) → limit < m → bounded neg m ≡ None
 bounded_false neg m h = simp (lt-leb _ _ h)
 
 abbrev some : List ℕ → Bool
@@ -29,12 +31,12 @@ some_length [] = refl
 some_length (b ∷ s) = lt-ltb 0 (suc (length s)) (omega arith)
 
 -- ---- past the sixth decimal
-zeros : (neg : Bool) (x : ℕ) (s : List ℕ) → zeros_of neg x s ≡ cond (all_zeros s) (bounded neg x) Not
+zeros : (neg : Bool) (x : ℕ) (s : List ℕ) → zeros_of neg x s ≡ cond (all_zeros s) (bounded neg x) None
 zeros neg x [] = refl
 zeros neg x (b ∷ s) = go (eqb b 48) (zeros neg x s)
   where
-    go : (t : Bool) → zeros_of neg x s ≡ cond (all_zeros s) (bounded neg x) Not
-        → cond t (zeros_of neg x s) Not ≡ cond (t && all_zeros s) (bounded neg x) Not
+    go : (t : Bool) → zeros_of neg x s ≡ cond (all_zeros s) (bounded neg x) None
+        → cond t (zeros_of neg x s) None ≡ cond (t && all_zeros s) (bounded neg x) None
     go true ih = ih
     go false ih = refl
 
@@ -42,7 +44,7 @@ zeros neg x (b ∷ s) = go (eqb b 48) (zeros neg x s)
 abbrev Decimals : Bool → Bool → ℕ → ℕ → List ℕ → Type 0
 Decimals neg empty r x s =
     decimals_of neg empty r (x * 10 ^ r) s
-    ≡ cond (all_digits s && (all_zeros (drop r s) && (some s || not empty))) (bounded neg (onward x (take r s) * 10 ^ (r - length s))) Not
+    ≡ cond (all_digits s && (all_zeros (drop r s) && (some s || not empty))) (bounded neg (onward x (take r s) * 10 ^ (r - length s))) None
 
 decimal_step : (neg empty : Bool) (r x b : ℕ) (s : List ℕ) (t : Bool) → digit b ≡ t
     → ((r' x' : ℕ) → Decimals neg false r' x' s) → Decimals neg empty r x (b ∷ s)
@@ -63,10 +65,10 @@ abbrev Whole : Bool → Bool → ℕ → List ℕ → Type 0
 Whole neg empty x s =
     whole_of neg empty x s
     ≡ cond (all_digits (before s) && (all_digits (after s) && (all_zeros (drop 6 (after s)) && (some (before s ++ after s) || not empty))))
-    (bounded neg (onward x (before s ++ take 6 (after s)) * 10 ^ (6 - length (after s)))) Not
+    (bounded neg (onward x (before s ++ take 6 (after s)) * 10 ^ (6 - length (after s)))) None
 
 -- a whole part above `most` passes the limit: the digits after it and the decimals that are missing are six at least
-past : (neg : Bool) (x : ℕ) (w d : List ℕ) → most < x → bounded neg (onward x (w ++ take 6 d) * 10 ^ (6 - length d)) ≡ Not
+past : (neg : Bool) (x : ℕ) (w d : List ℕ) → most < x → bounded neg (onward x (w ++ take 6 d) * 10 ^ (6 - length d)) ≡ None
 past neg x w d h =
     let l = w ++ take 6 d in
     let k = 6 - length d in
@@ -74,7 +76,7 @@ past neg x w d h =
     let p : 10 ^ 6 ≤ 10 ^ length l * 10 ^ k = rw pow-add at (pow-le-pow_right {n = 10} (omega arith) six-more) in
     bounded_false neg (onward x l * 10 ^ k) (rw onward_value (omega (arith, mul-le-mul h p)))
 
-neither : (t : Bool) → cond t Not Not ≡ Not
+neither : (t : Bool) → cond {A = Option Scaled} t None None ≡ None
 neither true = refl
 neither false = refl
 
@@ -94,12 +96,12 @@ whole neg empty x (b ∷ s) =
 
 -- ---- what was read, in the words of the promise
 closed : (neg : Bool) (w d : List ℕ)
-    → cond (all_digits w && (all_digits d && (all_zeros (drop 6 d) && some (w ++ d)))) (bounded neg (value (w ++ take 6 d) * 10 ^ (6 - length d))) Not
+    → cond (all_digits w && (all_digits d && (all_zeros (drop 6 d) && some (w ++ d)))) (bounded neg (value (w ++ take 6 d) * 10 ^ (6 - length d))) None
     ≡ spelt neg (w ++ d) (length d)
 closed neg w d = go (all_digits w) (all_digits d) (all_zeros (drop 6 d)) refl refl refl
   where
     go : (t u v : Bool) → all_digits w ≡ t → all_digits d ≡ u → all_zeros (drop 6 d) ≡ v
-        → cond (all_digits w && (all_digits d && (all_zeros (drop 6 d) && some (w ++ d)))) (bounded neg (value (w ++ take 6 d) * 10 ^ (6 - length d))) Not
+        → cond (all_digits w && (all_digits d && (all_zeros (drop 6 d) && some (w ++ d)))) (bounded neg (value (w ++ take 6 d) * 10 ^ (6 - length d))) None
         ≡ spelt neg (w ++ d) (length d)
     go false u v e f g = simp (all_append, e)
     go true false v e f g = simp (all_append, e, f)

@@ -10,8 +10,9 @@ use lib.Arith.{digits_mod}
 use native.Mathlib.Omega.{arith}
 use native.Mathlib.Nat.{suc-sub-suc, sub-zero, div-add-mod', mod-lt, mul-lt-mul_of_pos_right, le_of_mul-le-mul_right, lt_of_mul-lt-mul_right, eq_of_mul-eq-mul_right}
 use borrow.Author.Tests.{leb-true, leb-false, eqb-true, eq-eqb}
-use Rattle.numeral.specs.declared.Value.TheVariants.{Scaled}
-use Rattle.numeral.specs.Numeral.{limit, all_digits, before, after, value, millionths, exact, bounded, spelt, unsigned_of, numeral_of}
+use Rattle.std.specs.declared.option.Option.TheVariants.{Some}
+use Rattle.numeral.specs.declared.Scaled.{Scaled}
+use Rattle.numeral.specs.Numeral.{limit, scaled, all_digits, before, after, value, millionths, exact, bounded, spelt, unsigned_of, numeral_of}
 use Rattle.numeral.specs.Shortest.{natural, fraction, pointed, sign, shortest}
 use Rattle.numeral.proofs.Digits.{and_left, and_right, all_append, value_append, value_lt, power_pos}
 use Rattle.numeral.proofs.Exact.{is_exact}
@@ -20,26 +21,27 @@ use Rattle.numeral.proofs.Short.{natural_length, fraction_length, sign_length, p
 use Rattle.numeral.proofs.Round.{powers}
 
 -- ---- what a value tells of the numeral
-bounded_tells : (n negative : Bool) (x m : ℕ) → bounded n x ≡ Scaled negative m → (x ≡ m) × (m ≤ limit) × (n ≡ false → negative ≡ false)
+same : {v w : Scaled} → Some v ≡ Some w → (v.negative ≡ w.negative) × (v.millionths ≡ w.millionths)
+same h = (cc, cc)
+
+bounded_tells : (n negative : Bool) (x m : ℕ) → bounded n x ≡ Some (scaled negative m) → (x ≡ m) × (m ≤ limit) × (n ≡ false → negative ≡ false)
 bounded_tells n negative x m h = go (leb x limit) (eqb x 0) refl refl
   where
     go : (t u : Bool) → leb x limit ≡ t → eqb x 0 ≡ u → (x ≡ m) × (m ≤ limit) × (n ≡ false → negative ≡ false)
     go true true e f =
-        let k = simp (e, f) at h in
+        let k = same (simp (e, f) at h) in
         let z = eqb-true x 0 f in
-        let p : 0 ≡ m = cc in
-        (omega arith, omega arith, λ q. (cc))
+        (omega arith, omega arith, λ q. sym k.0)
     go true false e f =
-        let k = simp (e, f) at h in
+        let k = same (simp (e, f) at h) in
         let l = leb-true x limit e in
-        let p : x ≡ m = cc in
-        (p, omega arith, λ q. (cc))
+        (k.1, omega arith, λ q. sym k.0 ∙ q)
     go false u e f =
         let k = simp e at h in
         let z : ◌≡◌ {A = ℕ} 0 1 = cc in
         absurd (omega arith)
 
-spelt_tells : (n negative : Bool) (digits : List ℕ) (places m : ℕ) → spelt n digits places ≡ Scaled negative m
+spelt_tells : (n negative : Bool) (digits : List ℕ) (places m : ℕ) → spelt n digits places ≡ Some (scaled negative m)
     → (all_digits digits ≡ true) × (m * 10 ^ places ≡ value digits * 1000000) × (m ≤ limit) × (n ≡ false → negative ≡ false)
 spelt_tells n negative digits places m h = go (all_digits digits && (ltb 0 (length digits) && exact digits places)) refl
   where
@@ -120,7 +122,7 @@ apart (b ∷ s) = go (eqb b 46) refl (apart s)
     go true e ih = simp e (omega (arith, pointed_length s))
     go false e ih = simp e (omega arith)
 
-unsigned_least : (n negative : Bool) (m : ℕ) (t : List ℕ) → unsigned_of n t ≡ Scaled negative m → 0 < length (before t)
+unsigned_least : (n negative : Bool) (m : ℕ) (t : List ℕ) → unsigned_of n t ≡ Some (scaled negative m) → 0 < length (before t)
     → length (natural 19 (m / 1000000)) + length (pointed (fraction 6 (m % 1000000))) ≤ length t
 unsigned_least n negative m t h some =
     let w = before t in
@@ -139,7 +141,7 @@ abbrev pub body : List ℕ → List ℕ
 body [] = []
 body (b ∷ s) = cond (eqb b 45) s (b ∷ s)
 
-pub least : (negative : Bool) (m : ℕ) (s : List ℕ) → numeral_of s ≡ Scaled negative m → 0 < length (before (body s))
+pub least : (negative : Bool) (m : ℕ) (s : List ℕ) → numeral_of s ≡ Some (scaled negative m) → 0 < length (before (body s))
     → length (shortest negative m) ≤ length s
 least negative m [] h some = absurd (omega arith)
 least negative m (b ∷ s) h some = go (eqb b 45) refl

@@ -9,8 +9,8 @@ use lib.Pow.{pow-add}
 use native.Mathlib.Omega.{arith}
 use native.Mathlib.Nat.{pow-suc, suc-sub-suc, div-add-mod', mod-lt, div-lt_iff_lt-mul, add-sub_of_le, add-sub_cancel_left}
 use borrow.Author.Tests.{le-leb, lt-ltb, ltb-true, eqb-true}
-use Rattle.numeral.specs.declared.Value.TheVariants.{Scaled}
-use Rattle.numeral.specs.Numeral.{limit, digit, all_digits, before, after, value, signed, unsigned_of, numeral_of, Good}
+use Rattle.std.specs.declared.option.Option.TheVariants.{Some}
+use Rattle.numeral.specs.Numeral.{limit, digit, all_digits, before, after, value, scaled, signed, unsigned_of, numeral_of, Good}
 use Rattle.numeral.specs.Shortest.{natural, fraction, pointed, shortest}
 use Rattle.numeral.proofs.Digits.{and_left, and_right, digit_of, digit_not, all_append, value_append, power_pos}
 use Rattle.numeral.proofs.Exact.{only_exact}
@@ -97,18 +97,18 @@ plain [] t h e = absurd (omega arith)
 plain (b ∷ s) t h e = simp (digit_not b 45 (and_left (digit b) (all_digits s) h) (omega arith))
 
 -- a minus in front of what is not nought
-signs : (m : ℕ) (body : List ℕ) → numeral_of body ≡ signed false m → unsigned_of true body ≡ signed true m
-    → (n : Bool) → numeral_of (cond (n && not (eqb m 0)) (45 ∷ []) [] ++ body) ≡ signed n m
+signs : (m : ℕ) (body : List ℕ) → numeral_of body ≡ Some (signed false m) → unsigned_of true body ≡ Some (signed true m)
+    → (n : Bool) → numeral_of (cond (n && not (eqb m 0)) (45 ∷ []) [] ++ body) ≡ Some (signed n m)
 signs m body p q n = go n (eqb m 0) refl
   where
-    go : (n t : Bool) → eqb m 0 ≡ t → numeral_of (cond (n && not (eqb m 0)) (45 ∷ []) [] ++ body) ≡ signed n m
+    go : (n t : Bool) → eqb m 0 ≡ t → numeral_of (cond (n && not (eqb m 0)) (45 ∷ []) [] ++ body) ≡ Some (signed n m)
     go true true e = simp e (simp e at p)
     go true false e = simp e (simp e at q)
     go false t e = p
 
 -- q whole ones and r millionths, with r spelt by v at t millionths
-scaled : (m q r v p t : ℕ) → q * 1000000 + r ≡ m → v * t ≡ r → p * t ≡ 1000000 → m * p ≡ (q * p + v) * 1000000
-scaled m q r v p t e f g =
+joined : (m q r v p t : ℕ) → q * 1000000 + r ≡ m → v * t ≡ r → p * t ≡ 1000000 → m * p ≡ (q * p + v) * 1000000
+joined m q r v p t e f g =
     omega (arith, ap (λ (n : ℕ). n * p) e, ap (λ (n : ℕ). n * p) f, ap (λ (n : ℕ). v * n) g)
 
 module _ (m : ℕ) (small : m ≤ limit) where
@@ -138,9 +138,9 @@ module _ (m : ℕ) (small : m ≤ limit) where
   spells =
       let d = fraction 6 (m % 1000000) in
       simp (value_append, natural_value 19 (m / 1000000) (omega arith))
-      (scaled m (m / 1000000) (m % 1000000) (value d) (10 ^ length d) (10 ^ (6 - length d)) (omega arith) (fraction_value 6 (m % 1000000) (omega arith)) (powers (length d) 6 (fraction_length 6 (m % 1000000))))
+      (joined m (m / 1000000) (m % 1000000) (value d) (10 ^ length d) (10 ^ (6 - length d)) (omega arith) (fraction_value 6 (m % 1000000) (omega arith)) (powers (length d) 6 (fraction_length 6 (m % 1000000))))
 
-  read_back : (negative : Bool) → unsigned_of negative (whole_of ++ pointed decimals_of) ≡ signed negative m
+  read_back : (negative : Bool) → unsigned_of negative (whole_of ++ pointed decimals_of) ≡ Some (signed negative m)
   read_back negative =
       let x = only_exact (whole_of ++ decimals_of) (length decimals_of) m spells in
       simp (
@@ -156,16 +156,16 @@ module _ (m : ℕ) (small : m ≤ limit) where
       )
 
   -- what `shortest` writes is read back
-  pub round : (negative : Bool) → numeral_of (shortest negative m) ≡ signed negative m
+  pub round : (negative : Bool) → numeral_of (shortest negative m) ≡ Some (signed negative m)
   unfolding shortest whole_of decimals_of
   round negative =
       signs m (whole_of ++ pointed decimals_of)
       (plain whole_of (pointed decimals_of) all_whole some_whole ∙ read_back false) (read_back true) negative
 
 -- and so every value that a numeral can say
-pub read_again : (negative : Bool) (m : ℕ) → Good (Scaled negative m) → numeral_of (shortest negative m) ≡ Scaled negative m
-read_again negative m g = round m g.0 negative ∙ go (eqb m 0) refl
+pub read_again : (negative : Bool) (m : ℕ) → Good (scaled negative m) → numeral_of (shortest negative m) ≡ Some (scaled negative m)
+read_again negative m g = round m g.0 negative ∙ ap Some (go (eqb m 0) refl)
   where
-    go : (t : Bool) → eqb m 0 ≡ t → signed negative m ≡ Scaled negative m
-    go true e = simp e (ap₂ Scaled (sym (g.1 (eqb-true m 0 e))) (sym (eqb-true m 0 e)))
+    go : (t : Bool) → eqb m 0 ≡ t → signed negative m ≡ scaled negative m
+    go true e = simp e (ap₂ scaled (sym (g.1 (eqb-true m 0 e))) (sym (eqb-true m 0 e)))
     go false e = simp e

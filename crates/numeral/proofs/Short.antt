@@ -1,12 +1,13 @@
 -- `shortest` is short: at most 16 bytes within the limit, and 22 for every magnitude of 64 bits, since each part is.
-use Prim.Native.Nat.{ℕ, zero, suc, ◌+◌, ◌/◌, ◌%◌, ◌^◌, ◌≤◌, ◌<◌}
+use Prim.Native.Nat.{ℕ, zero, suc, ◌+◌, ◌/◌, ◌%◌, ◌^◌, ◌*◌, ◌≤◌, ◌<◌, max}
+use mathlib.Core.Path.{◌≡◌, refl}
 use mathlib.Core.Bool.{Bool, true, false, cond, not}
 use mathlib.Core.List.{List, [], ◌∷◌, ◌++◌}
 use lib.ListN.{length, length-append}
 use lib.Dec.{ltb, eqb}
 use native.Mathlib.Omega.{arith}
-use native.Mathlib.Nat.{pow-suc, div-lt_iff_lt-mul}
-use borrow.Author.Tests.{lt-ltb}
+use native.Mathlib.Nat.{pow-suc, div-lt_iff_lt-mul, one-le-pow}
+use borrow.Author.Tests.{lt-ltb, le-ltb}
 use Rattle.numeral.specs.Numeral.{limit}
 use Rattle.numeral.specs.Shortest.{natural, fraction, pointed, sign, shortest}
 use Rattle.numeral.proofs.Parts.{length_shortest}
@@ -32,6 +33,34 @@ natural_length (suc j) (suc k) n h l =
         → length (cond t ((48 + n) ∷ []) (natural k (n / 10) ++ ((48 + n % 10) ∷ []))) ≤ suc (suc j)
     go true ih = omega arith
     go false ih = simp length-append (omega arith)
+
+natural_long : (j k n : ℕ) → j ≤ k → 10 ^ j ≤ n → suc j ≤ length (natural k n)
+unfolding natural
+natural_long j zero n h l = omega arith
+natural_long zero (suc k) n h l = go (ltb n 10)
+  where
+    go : (t : Bool) → 1 ≤ length (cond t ((48 + n) ∷ []) (natural k (n / 10) ++ ((48 + n % 10) ∷ [])))
+    go true = omega arith
+    go false = simp length-append (omega arith)
+natural_long (suc j) (suc k) n h l =
+    let p : 10 * 10 ^ j ≤ n = omega (arith, rw pow-suc at l) in
+    let q : 1 ≤ 10 ^ j = one-le-pow j 10 (omega arith) in
+    let i = natural_long j k (n / 10) (omega arith) (omega (arith, p)) in
+    simp (le-ltb n 10 (omega (arith, p, q)), length-append) (omega (arith, i))
+
+natural_none : length (natural 19 0) ≡ 1
+unfolding natural
+natural_none = refl
+
+-- how many digits a number has that ten to the power k does not pass, and ten times as much does
+pub natural_many : (n m k : ℕ) → m ≡ max n 1 → 10 ^ k ≤ m → m < 10 * 10 ^ k → k < 20 → length (natural 19 n) ≡ k + 1
+natural_many zero m zero e h l b = rw (natural_none) (omega arith)
+natural_many zero m (suc k) e h l b =
+    let q : 1 ≤ 10 ^ k = one-le-pow k 10 (omega arith) in
+    absurd (omega (arith, q, rw pow-suc at h))
+natural_many (suc n) m k e h l b =
+    let u : suc n < 10 ^ suc k = rw pow-suc (omega arith) in
+    omega (arith, natural_length k 19 (suc n) (omega arith) u, natural_long k 19 (suc n) (omega arith) (omega arith))
 
 pub sign_length : (negative : Bool) (m : ℕ) → length (sign negative m) ≤ 1
 sign_length true m = go (eqb m 0)

@@ -1,8 +1,7 @@
 -- What a numeral says. Optional minus, digits with at most one point, at least one digit: the answer is a million times the
 -- exact value, where that is a whole number whose magnitude does not pass `limit`.
-use Rattle.std.specs.Prelude.{ℕ, ◌-◌, ◌+◌, ◌*◌, ◌/◌, ◌%◌, ◌^◌, ◌≤◌, ◌≡◌, Bool, true, false, cond, ◌&&◌, List, [], ◌∷◌, ◌++◌, length, leb, ltb, eqb}
-use Rattle.numeral.specs.declared.Value.{Value}
-use Rattle.numeral.specs.declared.Value.TheVariants.{Scaled, Not}
+use Rattle.std.specs.Prelude.{ℕ, ◌-◌, ◌+◌, ◌*◌, ◌/◌, ◌%◌, ◌^◌, ◌≤◌, ◌≡◌, Bool, true, false, cond, ◌&&◌, List, [], ◌∷◌, ◌++◌, length, leb, ltb, eqb, Option, Some, None}
+use Rattle.numeral.specs.declared.Scaled.{Scaled}
 
 -- the greatest magnitude, in millionths
 abbrev pub limit : ℕ
@@ -46,29 +45,32 @@ millionths digits places = value digits * 1000000 / 10 ^ places
 abbrev pub exact : List ℕ → ℕ → Bool
 exact digits places = eqb (value digits * 1000000 % 10 ^ places) 0
 
+-- a number of millionths
+abbrev pub scaled : Bool → ℕ → Scaled
+scaled negative m = record { negative = negative; millionths = m }
+
 -- minus nought is 0
-abbrev pub signed : Bool → ℕ → Value
-signed negative m = cond (eqb m 0) (Scaled false 0) (Scaled negative m)
+abbrev pub signed : Bool → ℕ → Scaled
+signed negative m = cond (eqb m 0) (scaled false 0) (scaled negative m)
 
 -- a magnitude that passes the limit is refused
-abbrev pub bounded : Bool → ℕ → Value
-bounded negative m = cond (leb m limit) (signed negative m) Not
+abbrev pub bounded : Bool → ℕ → Option Scaled
+bounded negative m = cond (leb m limit) (Some (signed negative m)) None
 
 -- what digits say of which the last `places` are decimals: at least one, nothing but digits, a whole number of millionths
-abbrev pub spelt : Bool → List ℕ → ℕ → Value
+abbrev pub spelt : Bool → List ℕ → ℕ → Option Scaled
 spelt negative digits places =
-    cond (all_digits digits && (ltb 0 (length digits) && exact digits places)) (bounded negative (millionths digits places)) Not
+    cond (all_digits digits && (ltb 0 (length digits) && exact digits places)) (bounded negative (millionths digits places)) None
 
 -- a numeral but for its minus
-abbrev pub unsigned_of : Bool → List ℕ → Value
+abbrev pub unsigned_of : Bool → List ℕ → Option Scaled
 unsigned_of negative s = spelt negative (before s ++ after s) (length (after s))
 
 -- what a byte string says as a numeral
-abbrev pub numeral_of : List ℕ → Value
-numeral_of [] = Not
+abbrev pub numeral_of : List ℕ → Option Scaled
+numeral_of [] = None
 numeral_of (b ∷ s) = cond (eqb b minus) (unsigned_of true s) (unsigned_of false (b ∷ s))
 
 -- what a numeral can say: a magnitude within the limit, and not minus nought
-abbrev pub Good : Value → Type 0
-Good (Scaled negative m) = (m ≤ limit) × (m ≡ 0 → negative ≡ false)
-Good Not = Unit {0}
+abbrev pub Good : Scaled → Type 0
+Good v = (v.millionths ≤ limit) × (v.millionths ≡ 0 → v.negative ≡ false)

@@ -2,7 +2,8 @@
 // bits that a record stores for a value.
 #![tactic(auto)]
 
-ghost use Rattle.std.specs.Prelude.{◌≤◌, ◌-◌, ◌*◌, ◌^◌, ◌≡◌, true, cond, length, drop};
+ghost use Rattle.std.specs.Prelude.{◌≤◌, ◌-◌, ◌*◌, ◌^◌, ◌≡◌, true, eqb, length};
+ghost use Rattle.std.specs.List.{list_all};
 ghost use Rattle.numeral.specs.Numeral.{numeral_of, digit};
 ghost use Rattle.numeral.specs.Machine.{most, pushed, ended, zeros_of, decimals_of, whole_of};
 ghost use Rattle.numeral.specs.Shortest.{below_nought, shortest};
@@ -13,18 +14,11 @@ use laid::{fraction_width, lay, natural_width, sign_width};
 
 mod laid;
 
-// What a numeral says: whether it is below nought, and its magnitude in millionths; or that it is no numeral.
-#[derive(Clone, Copy)]
-pub enum Value {
-    Scaled(bool, u64),
-    Not,
-}
-
-// The place after what was written; or that the buffer has no room for it.
-#[derive(Clone, Copy)]
-pub enum Written {
-    Upto(usize),
-    NoRoom,
+// What a numeral says: whether it is below nought, and its magnitude in millionths.
+#[derive(Clone, Copy, PartialEq, Eq)]
+pub struct Scaled {
+    pub negative: bool,
+    pub millionths: u64,
 }
 
 const LIMIT: u64 = 10000000000000;
@@ -36,20 +30,12 @@ pub(crate) const MILLION: u64 = 1000000;
 
 const GREATEST_WORD: u64 = 18446744073709551615;
 
-// `0` to `9`.
-fn is_digit(b: u8) -> bool
-    ensures { result ≡ digit b }
-{
-    (b'0' <= b) & (b <= b'9')
-}
-
 // The number that a digit stands for.
 fn digit_of(b: u8) -> u64
     requires { digit b ≡ true }
     ensures { result ≡ b - 48 }
 {
-    let d = b - b'0';
-    d as u64
+    u64::from(b - b'0')
 }
 
 // `x` with one digit more.
@@ -60,173 +46,160 @@ fn push(x: u64, b: u8) -> u64
     x * 10 + digit_of(b)
 }
 
+static POWERS: [u64; 7] = [1, 10, 100, 1000, 10000, 100000, 1000000];
+
 // Ten to the power k.
 pub(crate) fn power(k: usize) -> u64
     requires { k ≤ 6 }
     ensures { result ≡ 10 ^ k }
 {
-    match k {
-        0 => 1,
-        1 => 10,
-        2 => 100,
-        3 => 1000,
-        4 => 10000,
-        5 => 100000,
-        _ => 1000000,
-    }
+    POWERS[k]
 }
 
 // The answer at the end of the bytes, which come to m millionths.
-fn finish(negative: bool, empty: bool, m: u64) -> Value
+fn finish(negative: bool, empty: bool, m: u64) -> Option<Scaled>
     ensures { result ≡ ended negative empty m }
 {
-    if empty {
-        return Value::Not;
+    if empty || LIMIT < m {
+        return None;
     }
-    if LIMIT < m {
-        return Value::Not;
-    }
-    if m == 0 {
-        return Value::Scaled(false, 0);
-    }
-    Value::Scaled(negative, m)
+    Some(Scaled {
+        negative: negative && m != 0,
+        millionths: m,
+    })
 }
 
 // The bytes past the sixth decimal of x millionths.
-fn zeros(part: &[u8], from: usize, negative: bool, x: u64) -> Value
-    requires { from ≤ length part.now }
-    ensures { result ≡ zeros_of negative x (drop from part.now) }
+fn zeros(part: &[u8], negative: bool, x: u64) -> Option<Scaled>
+    ensures { result ≡ zeros_of negative x part.now }
 {
-    let mut i = from;
-    while i < part.len() {
-        if part[i] != b'0' {
-            return Value::Not;
-        }
-        i += 1;
+    if only_zeros(part) {
+        finish(negative, false, x)
+    } else {
+        None
     }
-    finish(negative, false, x)
+}
+
+fn only_zeros(part: &[u8]) -> bool
+    ensures { result ≡ list_all (λ b. eqb b 48) part.now }
+{
+    part.iter().all(|b| *b == b'0')
 }
 
 // The bytes past the point: `room` is how many decimals still count.
-fn decimals(part: &[u8], from: usize, negative: bool, none: bool, whole: u64) -> Value
-    requires { (from ≤ length part.now) × (whole ≤ most) }
-    ensures { result ≡ decimals_of negative none 6 (whole * 1000000) (drop from part.now) }
+fn decimals(part: &[u8], negative: bool, none: bool, whole: u64) -> Option<Scaled>
+    requires { whole ≤ most }
+    ensures { result ≡ decimals_of negative none 6 (whole * 1000000) part.now }
 {
     let mut empty = none;
     let mut room: usize = 6;
     let mut x = whole * MILLION;
-    let mut i = from;
-    while i < part.len() {
+    for (i, b) in part.iter().enumerate() {
         if room == 0 {
-            return zeros(part, i, negative, x);
+            return zeros(&part[i..], negative, x);
         }
-        let b = part[i];
-        if !is_digit(b) {
-            return Value::Not;
+        if !b.is_ascii_digit() {
+            return None;
         }
         room -= 1;
-        x = x + digit_of(b) * power(room);
+        x += digit_of(*b) * power(room);
         empty = false;
-        i += 1;
     }
     finish(negative, empty, x)
 }
 
 // The numeral but for its minus.
-fn unsigned(part: &[u8], from: usize, negative: bool) -> Value
-    requires { from ≤ length part.now }
-    ensures { result ≡ whole_of negative true 0 (drop from part.now) }
+fn unsigned(part: &[u8], negative: bool) -> Option<Scaled>
+    ensures { result ≡ whole_of negative true 0 part.now }
 {
     let mut empty = true;
     let mut x: u64 = 0;
-    let mut i = from;
-    while i < part.len() {
-        let b = part[i];
-        if b == b'.' {
-            return decimals(part, i + 1, negative, empty, x);
+    for (i, b) in part.iter().enumerate() {
+        if *b == b'.' {
+            return decimals(&part[i + 1..], negative, empty, x);
         }
-        if !is_digit(b) {
-            return Value::Not;
+        if !b.is_ascii_digit() {
+            return None;
         }
-        x = push(x, b);
+        x = push(x, *b);
         if MOST < x {
-            return Value::Not;
+            return None;
         }
         empty = false;
-        i += 1;
     }
     finish(negative, empty, x * MILLION)
 }
 
-// Where the digits start.
-fn past_minus(negative: bool) -> usize
-    ensures { result ≡ cond negative 1 0 }
-{
-    if negative { 1 } else { 0 }
-}
-
 // What a byte string says as a numeral.
-pub fn numeral(part: &[u8]) -> Value
+pub fn numeral(part: &[u8]) -> Option<Scaled>
     ensures { result ≡ numeral_of part.now }
 {
-    if part.len() == 0 {
-        return Value::Not;
+    if part.is_empty() {
+        return None;
     }
-    let negative = part[0] == b'-';
-    unsigned(part, past_minus(negative), negative)
+    if part[0] == b'-' {
+        return unsigned(&part[1..], true);
+    }
+    unsigned(part, false)
 }
 
 // Whether a number is below nought: minus nought is not.
-pub(crate) fn below_nought(negative: bool, m: u64) -> bool
-    ensures { result ≡ below_nought negative m }
+pub(crate) fn below_nought(v: Scaled) -> bool
+    ensures { result ≡ below_nought v.negative v.millionths }
 {
-    negative & (m != 0)
+    v.negative & (v.millionths != 0)
 }
 
 // The word of a value, in two's complement.
-pub fn stored(negative: bool, m: u64) -> u64
-    ensures { result ≡ stored_of negative m }
+pub fn stored(v: Scaled) -> u64
+    ensures { result ≡ stored_of v.negative v.millionths }
 {
-    if below_nought(negative, m) {
-        return GREATEST_WORD - m + 1;
+    if below_nought(v) {
+        return GREATEST_WORD - v.millionths + 1;
     }
-    m
+    v.millionths
 }
 
 // The value of a word.
-pub fn value_of(word: u64) -> Value
+pub fn value_of(word: u64) -> Scaled
     ensures { result ≡ value_of word }
 {
     if word < 9223372036854775808 {
-        return Value::Scaled(false, word);
+        return Scaled {
+            negative: false,
+            millionths: word,
+        };
     }
-    Value::Scaled(true, GREATEST_WORD - word + 1)
+    Scaled {
+        negative: true,
+        millionths: GREATEST_WORD - word + 1,
+    }
 }
 
-// The length of the shortest numeral of m millionths.
-pub fn width(negative: bool, m: u64) -> usize
-    ensures { result ≡ length (shortest negative m) }
+// The length of the shortest numeral of a value.
+pub fn width(v: Scaled) -> usize
+    ensures { result ≡ length (shortest v.negative v.millionths) }
 {
-    let s = sign_width(negative, m);
-    let n = natural_width(m / MILLION);
-    let f = m % MILLION;
+    let s = sign_width(v);
+    let n = natural_width(v.millionths / MILLION);
+    let f = v.millionths % MILLION;
     if f == 0 {
         return s + n;
     }
     s + n + 1 + fraction_width(f)
 }
 
-// Puts the shortest numeral of m millionths into a buffer, from `at` on.
-pub fn put(negative: bool, m: u64, out: &mut [u8], at: usize) -> Written
-    ensures value { result ≡ written_of out.old at (shortest negative m) }
-    ensures out_after { out.new ≡ laid out.old at (shortest negative m) }
+// Puts the shortest numeral of a value into a buffer, from `at` on, and answers the place after it, where there is room.
+pub fn put(v: Scaled, out: &mut [u8], at: usize) -> Option<usize>
+    ensures value { result ≡ written_of out.old at (shortest v.negative v.millionths) }
+    ensures out_after { out.new ≡ laid out.old at (shortest v.negative v.millionths) }
 {
-    let w = width(negative, m);
+    let w = width(v);
     if out.len() < w {
-        return Written::NoRoom;
+        return None;
     }
     if out.len() - w < at {
-        return Written::NoRoom;
+        return None;
     }
-    Written::Upto(lay(negative, m, out, at))
+    Some(lay(v, out, at))
 }

@@ -3,10 +3,11 @@ use Prim.Native.Nat.{ℕ, zero, suc, ◌+◌, ◌≤◌, ◌<◌, zero-le, suc-l
 use native.Mathlib.Nat.{not-suc-le-zero, le_of_suc-le-suc}
 use native.Mathlib.Decide.{dec_lt}
 use native.Mathlib.Omega.{arith}
-use mathlib.Core.Path.{◌≡◌, refl, sym, ◌∙◌}
+use mathlib.Core.Path.{◌≡◌, refl, sym, ap, ◌∙◌}
 use mathlib.Core.Bool.{Bool, true, false, cond, true≢false}
 use mathlib.Core.List.{List, [], ◌∷◌, ◌++◌, Permᴰ}
 use lib.ListN.{length, get_or}
+use Rattle.std.specs.Prelude.{filter, not}
 use Rattle.ordered.specs.Order.{Order}
 use Rattle.ordered.specs.Counted.{up_to}
 use Rattle.ordered.proofs.Runs.{Climbs}
@@ -49,6 +50,17 @@ module _ {A : Type 0} (before : A → A → Bool) where
       go true false n = refl
       go false true n = refl
       go false false n = omega arith
+
+  -- those that do not come after x, counted one by one
+  pub upto_filter : (x : A) (l : List A) → length (filter (λ a. not (before x a)) l) ≡ up_to before x l
+  unfolding up_to
+  upto_filter x [] = refl
+  upto_filter x (a ∷ l) = go (before x a) (upto_filter x l)
+    where
+      go : (b : Bool) → length (filter (λ a. not (before x a)) l) ≡ up_to before x l
+          → length (cond (not b) (a ∷ filter (λ a. not (before x a)) l) (filter (λ a. not (before x a)) l)) ≡ cond b (up_to before x l) (suc (up_to before x l))
+      go true h = h
+      go false h = ap suc h
 
   -- u things of the list, and those the first, do not come after x
   pub record Upto (d x : A) (l : List A) (u : ℕ) : Type 0 where

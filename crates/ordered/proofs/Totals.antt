@@ -25,6 +25,10 @@ module _ {A : Type 0} (weight : A → ℕ) where
   unfolding total
   total_none = refl
 
+  pub total_first : (a : A) (l : List A) → total weight (a ∷ l) ≡ weight a + total weight l
+  unfolding total
+  total_first a l = refl
+
   -- the first n, and one more
   pub weighs_none : (f : ℕ → A) → total_to weight f 0 ≡ 0
   unfolding total_to

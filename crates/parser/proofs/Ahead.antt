@@ -4,6 +4,10 @@ use mathlib.Core.Path.{◌≡◌, refl, sym, ap, ◌∙◌}
 use mathlib.Core.List.{List, [], ◌∷◌, map}
 use native.Mathlib.Omega.{arith}
 use borrow.Author.Tests.{ne_eqb, eq-eqb}
+use lib.Dec.{eqb}
+use lib.Pointwise.{pointwise}
+use mathlib.Core.Bool.{◌&&◌}
+use Rattle.word.specs.Words.{same}
 use lib.ListN.{length, take, drop, drop_of_length-le, length-take, length-drop}
 use lib.Seq.{take_all, take-nil, take-take, drop-drop}
 use Rattle.lexer.specs.declared.Token.{Token}
@@ -11,7 +15,9 @@ use Rattle.lexer.specs.declared.Lexed.{Lexed}
 use Rattle.lexer.specs.declared.Lexed.TheVariants.{Found, End, Bad}
 use Rattle.lexer.specs.Lex.{from, rest, lex_from}
 use Rattle.lexer.proofs.Whole.{unrolls}
-use Rattle.lexer.proofs.Kinded.{kinded}
+use Rattle.lexer.proofs.Kinded.{kinded, kind_eqb, kind_ne}
+use Rattle.lexer.specs.declared.Kind.{Kind}
+use Rattle.lexer.specs.Kinds.{number_of}
 use Rattle.grammar.specs.Tokens.{refused, next}
 use Rattle.grammar.specs.Tokens.{next_token}
 use Rattle.grammar.specs.Reading.{tok}
@@ -25,19 +31,19 @@ pub end_bytes : (s : List ℕ) → take (length s - length s) (drop (length s) s
 end_bytes s = let z : length s - length s ≡ 0 = omega arith in rw z
 
 -- the end is not taken
-pub at_end : (s : List ℕ) (h : Token) → h.kind ≡ 0 → next_token (ahead_of s h) ≡ refused 4 (record { place = h.stop; line = h.line })
+pub at_end : (s : List ℕ) (h : Token) → h.kind ≡ Kind.End → next_token (ahead_of s h) ≡ refused 4 (record { place = h.stop; line = h.line })
 unfolding next rest_of
-at_end s h z = rw (eq-eqb h.kind 0 z)
+at_end s h z = rw (kind_eqb h.kind Kind.End z)
 
 -- any other token is, and the lexer's answer from its stop on is held next
-module _ (s : List ℕ) (h : Token) (z : h.kind ≡ 0 → ⊥) where
+module _ (s : List ℕ) (h : Token) (z : h.kind ≡ Kind.End → ⊥) where
   pub taken : (r : Lexed) → r ≡ lex_from s h.stop h.line → as_taken s h (held_next s r) ≡ next_token (ahead_of s h)
   unfolding next rest_of
   taken (Found t) q =
-      let k : (1 ≤ t.kind) × (t.kind ≤ 4) = rw (← q) at (kinded s h.stop h.line) in
-      sym (rw (ne_eqb h.kind 0 z, opened s h.stop h.line (Found t) q, ne_eqb t.kind 5 (omega arith), ne_eqb t.kind 0 (omega arith)))
-  taken (End n) q = sym (rw (ne_eqb h.kind 0 z, opened s h.stop h.line (End n) q, end_bytes s))
-  taken (Bad i n) q = sym (rw (ne_eqb h.kind 0 z, opened s h.stop h.line (Bad i n) q))
+      let k : (1 ≤ number_of t.kind) × (number_of t.kind ≤ 4) = rw (← q) at (kinded s h.stop h.line) in
+      sym (rw (kind_ne h.kind Kind.End z, opened s h.stop h.line (Found t) q, ne_eqb (number_of t.kind) 5 (omega arith), ne_eqb (number_of t.kind) 0 (omega arith)))
+  taken (End n) q = sym (rw (kind_ne h.kind Kind.End z, opened s h.stop h.line (End n) q, end_bytes s))
+  taken (Bad i n) q = sym (rw (kind_ne h.kind Kind.End z, opened s h.stop h.line (Bad i n) q))
 
   pub not_end : as_taken s h (held_next s (lex_from s h.stop h.line)) ≡ next_token (ahead_of s h)
   not_end = taken (lex_from s h.stop h.line) refl
@@ -80,3 +86,11 @@ inside_at s a m n e =
 -- a part that has bytes starts within the text
 pub span_within : (s : List ℕ) (a n k : ℕ) → length (take n (drop a s)) ≡ k → 1 ≤ k → a < length s
 span_within s a n k e h = omega (arith, length-take n (drop a s), length-drop a s, e, h)
+
+-- bytes compared one by one, as `==` does
+pub pointwise_same : (s t : List ℕ) → pointwise eqb s t ≡ same s t
+unfolding same
+pointwise_same [] [] = refl
+pointwise_same [] (b ∷ t) = refl
+pointwise_same (a ∷ s) [] = refl
+pointwise_same (a ∷ s) (b ∷ t) = ap (eqb a b &&◌) (pointwise_same s t)

@@ -1,3 +1,4 @@
+pub mod Exits
 pub mod Ahead
 pub mod Taking
 pub mod Listed

@@ -1,12 +1,16 @@
 -- Laws of the items: the words that they ask for by number, answers one after the other, and a value among numbers.
 use Prim.Native.Nat.{ℕ}
-use mathlib.Core.Path.{◌≡◌, refl, sym, ◌∙◌}
-use mathlib.Core.Bool.{Bool, false, ◌||◌, or_assoc, or-false}
+use mathlib.Core.Path.{◌≡◌, refl, ap}
+use mathlib.Core.Bool.{◌||◌}
 use mathlib.Core.List.{List, [], ◌∷◌}
 use lib.Dec.{eqb}
+use Rattle.std.specs.List.{list_any}
 use Rattle.word.specs.Words.{keys, values, words, raised, upper, same, first_where, word_of, word}
 use Rattle.grammar.specs.Tokens.{Ahead, Answer, ok, refused, then}
-use Rattle.grammar.specs.Engine.{member}
+use Rattle.grammar.specs.Engine.{Draft, member}
+use Rattle.grammar.specs.Reading.{Mark}
+use Rattle.parser.specs.declared.draft.Sketch.{Sketch}
+use Rattle.parser.specs.Drafts.{draft_of, flatly}
 
 pub units_word : word "UNITS" ≡ 30
 unfolding keys values words raised upper same first_where word_of
@@ -21,21 +25,14 @@ module _ {A M : Type 0} where
   then_then (ok b a) k l = refl
   then_then (refused n m) k l = refl
 
--- a value compared with each number of a list in turn, as the code joins the answers
-abbrev joined : Bool → List ℕ → ℕ → Bool
-joined b [] v = b
-joined b (n ∷ ns) v = joined (b || eqb n v) ns v
-
-abbrev in_turn : List ℕ → ℕ → Bool
-in_turn [] v = false
-in_turn (n ∷ ns) v = joined (eqb n v) ns v
-
-joins : (b : Bool) (ns : List ℕ) (v : ℕ) → joined b ns v ≡ b || member ns v
+-- a value compared with each number of a list in turn
+pub any_member : (ns : List ℕ) (v : ℕ) → list_any (λ n. eqb n v) ns ≡ member ns v
 unfolding member
-joins b [] v = sym (or-false b)
-joins b (n ∷ ns) v = joins (b || eqb n v) ns v ∙ or_assoc b (eqb n v) (member ns v)
+any_member [] v = refl
+any_member (n ∷ ns) v = ap (eqb n v ||◌) (any_member ns v)
 
-pub in_turn_lem : (ns : List ℕ) (v : ℕ) → in_turn ns v ≡ member ns v
-unfolding member
-in_turn_lem [] v = refl
-in_turn_lem (n ∷ ns) v = joins (eqb n v) ns v
+-- an answer after which nothing is set has no name to flatten
+pub unset_flat : (s : List ℕ) (b : Draft ℕ) (d : Sketch) (p : Answer ℕ Mark ℕ)
+    → then p (λ n a. ok (draft_of s b d) a) ≡ flatly (then p (λ n a. ok (draft_of s b d) a))
+unset_flat s b d (ok n a) = refl
+unset_flat s b d (refused n m) = refl

@@ -6,33 +6,21 @@ use mathlib.Core.Bool.{Bool, true, false, cond}
 use mathlib.Core.List.{List}
 use native.Mathlib.Decide.{dec_lt}
 use native.Mathlib.Omega.{arith}
-use borrow.Author.Tests.{le-leb, lt-leb}
+use borrow.Author.Tests.{le-leb, lt-leb, eqb-true}
+use Rattle.std.specs.Prelude.{Option, Some, None}
 use lib.Dec.{eqb, leb}
 use lib.ListN.{length}
-use Rattle.refusal.specs.declared.Refusal.{Refusal}
 use Rattle.lexer.specs.Kinds as Kind
-use Rattle.lexer.specs.declared.Token.{Token}
-use Rattle.numeral.specs.declared.Value.{Value}
-use Rattle.numeral.specs.declared.Value.TheVariants.{Scaled, Not}
+use Rattle.numeral.specs.declared.Scaled.{Scaled}
 use Rattle.numeral.specs.Numeral.{numeral_of}
 use Rattle.word.specs.Words.{same, word_of, word, is_key}
 use Rattle.word.specs.Codes.{code_of, values_of}
 use Rattle.grammar.specs.Grammar.{Item, key, keyword, name, own, x, y, semi, value, first, first_key, second, string, code, if_more, no_name, among, whole}
-use Rattle.grammar.specs.Tokens.{Tok, Ahead, Answer, ok, refused, then, next_token, expect}
-use Rattle.grammar.specs.Engine.{Frame, Draft, get_name, get_key, expect_key, expect_keyword, expect_ident, valued, parse_number, parse_enum, begins, item, passed}
-use Rattle.grammar.specs.Reading.{Mark}
+use Rattle.grammar.specs.Tokens.{Tok, Ahead, Answer, ok, refused, then, complain, next_token, expect}
+use Rattle.grammar.specs.Engine.{Frame, Draft, set_first, coded, get_name, get_key, expect_key, expect_keyword, expect_ident, valued, parse_number, parse_enum, begins, item, passed}
 use Rattle.rows.specs.Packed.{key_at, item_at}
-use Rattle.parser.specs.declared.take.Taken.{Taken}
-use Rattle.parser.specs.declared.take.Taken.TheVariants as N
-use Rattle.parser.specs.Code.{Took, refuse, as_taken}
-
--- what the code's answer says of taking
-module _ (s : List ℕ) (h : Token) (a : Ahead ℕ Mark) (o : Taken) (e : as_taken s h o ≡ next_token a) where
-  pub took_so : (t : Token) → o ≡ N.Next t → Took s h t a
-  took_so t q = sym e ∙ ap (as_taken s h) q
-
-  pub refused_so : (r : Refusal) → o ≡ N.Refused r → next_token a ≡ refuse r
-  refused_so r q = sym e ∙ ap (as_taken s h) q
+use Rattle.parser.specs.Code.{get_word}
+use Rattle.parser.proofs.Listed.{then_then}
 
 -- the items that take the token held
 abbrev pub Takes : Item → Type 0
@@ -165,9 +153,9 @@ module _ {A M : Type 0} (a c : Ahead A M) where
   either_so true t u q r = q
   either_so false t u q r = r
 
-  valued_so : (v : Value) → afterwards c (valued v c) ≡ c
-  valued_so (Scaled negative m) = refl
-  valued_so Not = refl
+  valued_so : (v : Option Scaled) → afterwards c (valued v c) ≡ c
+  valued_so (Some v) = refl
+  valued_so None = refl
 
   module _ (t : Tok A M) (h : next_token a ≡ ok t c) where
     token_so : (k : ℕ) → afterwards c (expect k a) ≡ c
@@ -217,3 +205,34 @@ module _ {A M : Type 0} (a c : Ahead A M) where
     item_so f no_name d l = absurd l
     item_so f (among vs) d l = absurd l
     item_so f (whole n) d l = absurd l
+
+-- THE TAKERS OF WORDS, BY THE NUMBER OF THE WORD
+
+module _ {A M : Type 0} (a : Ahead A M) where
+  pub key_of_word : get_key a ≡ then (get_word a) (λ w b. cond (is_key w) (ok w b) (complain 5 b))
+  unfolding get_key
+  key_of_word = sym (then_then (get_name a) (λ t b. ok (word_of t.bytes) b) (λ w b. cond (is_key w) (ok w b) (complain 5 b)))
+
+  same_word : (k w : ℕ) (b : Ahead A M) → cond (eqb w k) (ok w b) (complain 7 b) ≡ cond (eqb w k) (ok k b) (complain 7 b)
+  same_word k w b = go (eqb w k) refl
+    where
+      go : (c : Bool) → eqb w k ≡ c → cond c (ok w b) (complain 7 b) ≡ cond c (ok k b) (complain 7 b)
+      go true e = ap (λ n. ok n b) (eqb-true w k e)
+      go false e = refl
+
+  keyword_answer : (k : ℕ) (p : Answer A M (Tok A M))
+      → then p (λ t b. cond (eqb (word_of t.bytes) k) (ok k b) (complain 7 b)) ≡ then (then p (λ t b. ok (word_of t.bytes) b)) (λ w b. cond (eqb w k) (ok w b) (complain 7 b))
+  keyword_answer k (ok t b) = sym (same_word k (word_of t.bytes) b)
+  keyword_answer k (refused n m) = refl
+
+  pub keyword_of_word : (k : ℕ) → expect_keyword k a ≡ then (get_word a) (λ w b. cond (eqb w k) (ok w b) (complain 7 b))
+  unfolding expect_keyword
+  keyword_of_word k = keyword_answer k (get_name a)
+
+  pub enum_of_word : (code_for : ℕ → ℕ) → parse_enum code_for a ≡ then (get_word a) (λ w b. coded (code_for w) b)
+  unfolding parse_enum
+  enum_of_word code_for = sym (then_then (get_name a) (λ t b. ok (word_of t.bytes) b) (λ w b. coded (code_for w) b))
+
+  pub first_of_word : (f : Frame A) (d : Draft A) → item f first d a ≡ then (get_word a) (λ w b. cond (begins (values_of d.rec.kind) w) (ok (set_first w d) b) (complain 6 b))
+  unfolding item
+  first_of_word f d = sym (then_then (get_name a) (λ t b. ok (word_of t.bytes) b) (λ w b. cond (begins (values_of d.rec.kind) w) (ok (set_first w d) b) (complain 6 b)))

@@ -1,21 +1,16 @@
 -- Inner machinery, which nobody has to believe: what the code's sketch of a record stands for.
 -- The image `as_drafted` forgets of an answer only what a name's length says beyond the text's end. `shown` keeps of a draft what a record file
 -- and a block's name have of it, which is all that a step makes of it.
-use Rattle.std.specs.Prelude.{ℕ, ◌+◌, ◌%◌, ◌≡◌, cond, List, eqb}
-use Prim.Native.String.{String}
+use Rattle.std.specs.Prelude.{ℕ, ◌+◌, ◌%◌, cond, List, eqb, Result, Ok, Err}
 use Rattle.refusal.specs.declared.Refusal.{Refusal}
 use Rattle.record.specs.declared.Record.{Record}
-use Rattle.grammar.specs.Tokens.{Ahead, Answer, ok, refused}
+use Rattle.grammar.specs.Tokens.{Answer, ok, refused}
 use Rattle.lexer.specs.declared.Token.{Token}
-use Rattle.word.specs.Words.{word}
-use Rattle.grammar.specs.Grammar.{key, keyword}
-use Rattle.grammar.specs.Engine.{Maybe, none, some, Name, Frame, Draft, item}
+use Rattle.grammar.specs.Engine.{Maybe, none, some, Name, Draft}
 use Rattle.grammar.specs.Turns.{label_of}
 use Rattle.grammar.specs.Reading.{Mark, filed}
 use Rattle.parser.specs.declared.draft.Sketch.{Sketch}
-use Rattle.parser.specs.declared.draft.Drafted.{Drafted}
-use Rattle.parser.specs.declared.draft.Drafted.TheVariants as D
-use Rattle.parser.specs.Code.{ahead_of, Took, refuse, complaint}
+use Rattle.parser.specs.Code.{ahead_of, refuse}
 use Rattle.parser.specs.Kept.{name_in}
 
 -- a draft with another name
@@ -49,13 +44,13 @@ abbrev pub emptied : Draft ℕ → Draft ℕ
 emptied b =
     record { rec = record { kind = b.rec.kind; code = 0; at = b.rec.at; owner = b.rec.owner; name = none; x = 0; y = 0 }; first = 0 }
 
-abbrev pub as_drafted : List ℕ → Draft ℕ → Drafted → Answer ℕ Mark (Draft ℕ)
-as_drafted s b (D.Next d t) = ok (draft_of s b d) (ahead_of s t)
-as_drafted s b (D.Refused r) = refuse r
+-- what an item answers: the sketch, and the token then held
+abbrev pub Drafted : Type 0
+Drafted = Result (Sketch × Token) Refusal
 
-abbrev pub why_drafted : Drafted → Refusal
-why_drafted (D.Next d t) = complaint 0 t
-why_drafted (D.Refused r) = r
+abbrev pub as_drafted : List ℕ → Draft ℕ → Drafted → Answer ℕ Mark (Draft ℕ)
+as_drafted s b (Ok (d, t)) = ok (draft_of s b d) (ahead_of s t)
+as_drafted s b (Err r) = refuse r
 
 -- a name by the place of its first byte
 abbrev pub flat : Maybe (Name ℕ) → Maybe (Name ℕ)
@@ -77,12 +72,3 @@ entry r l = record { rec = r; label = l }
 abbrev pub shown : Answer ℕ Mark (Draft ℕ) → Answer ℕ Mark Entry
 shown (ok d a) = ok (entry (filed d.rec) (label_of d.rec.name)) a
 shown (refused n m) = refused n m
-
--- the key word with the number n, and the word, taken after the sketch d as the token t with u held next
-abbrev pub ReadsKey : List ℕ → Sketch → Token → Token → ℕ → Drafted → Type 0
-ReadsKey s d t u n r =
-    (f : Frame ℕ) (b : Draft ℕ) (a : Ahead ℕ Mark) (w : String) → Took s t u a → word w ≡ n → as_drafted s b r ≡ flatly (item f (key w) (draft_of s b d) a)
-
-abbrev pub ReadsKeyword : List ℕ → Sketch → Token → Token → ℕ → Drafted → Type 0
-ReadsKeyword s d t u n r =
-    (f : Frame ℕ) (b : Draft ℕ) (a : Ahead ℕ Mark) (w : String) → Took s t u a → word w ≡ n → as_drafted s b r ≡ flatly (item f (keyword w) (draft_of s b d) a)

@@ -1,6 +1,7 @@
 -- Inner machinery, which nobody has to believe: what the code's steps stand for in the definition.
 -- The image `as_step` forgets nothing of an answer but how a number says what a record does to the open blocks.
-use Rattle.std.specs.Prelude.{ℕ, ◌%◌, ◌-◌, ◌≤◌, ◌≡◌, cond, List, [], eqb}
+use Rattle.std.specs.Prelude.{ℕ, ◌%◌, ◌-◌, ◌≤◌, ◌≡◌, cond, List, [], eqb, Result, Ok, Err}
+use Rattle.refusal.specs.declared.Refusal.{Refusal}
 use Rattle.lexer.specs.declared.Token.{Token}
 use Rattle.parser.specs.declared.open.Frame.{Frame}
 use Rattle.parser.specs.declared.step.Chosen.{Chosen}
@@ -34,12 +35,12 @@ filed_step T.backs = T.backs
 filed_step (T.halts n p) = T.halts n p
 
 -- the code's steps
-abbrev pub as_step : List ℕ → Step → T.Step ℕ Mark Entry
-as_step s (S.Gives t r m) = T.gives (move_of m) (entry r (labelled (move_of m) (name_in s r.name r.len))) (ahead_of s t)
-as_step s (S.Ends t) = T.ends (ahead_of s t)
-as_step s (S.Goes t b) = T.goes (block_of b) (ahead_of s t)
-as_step s S.Back = T.backs
-as_step s (S.Refused r) = T.halts r.number (record { place = r.place; line = r.line })
+abbrev pub as_step : List ℕ → Result Step Refusal → T.Step ℕ Mark Entry
+as_step s (Ok (S.Gives t r m)) = T.gives (move_of m) (entry r (labelled (move_of m) (name_in s r.name r.len))) (ahead_of s t)
+as_step s (Ok (S.Ends t)) = T.ends (ahead_of s t)
+as_step s (Ok (S.Goes t b)) = T.goes (block_of b) (ahead_of s t)
+as_step s (Ok S.Back) = T.backs
+as_step s (Err r) = T.halts r.number (record { place = r.place; line = r.line })
 
 -- a step in the block f, of the version v, with the token t held
 abbrev pub step_in : List ℕ → ℕ → Open ℕ → Token → Body → T.Step ℕ Mark Entry
@@ -55,18 +56,18 @@ runs f a b (refuse n) = T.backs
 runs f a b back = T.backs
 runs f a b (up_to54 act) = T.backs
 
-abbrev pub as_chosen : List ℕ → Frame → Token → Chosen → T.Step ℕ Mark (Rec ℕ)
-as_chosen s f t (C.Runs row u) = runs (frame_of s f) (ahead_of s t) (ahead_of s u) (act_of row.head row.items)
-as_chosen s f t (C.Goes u b) = T.goes (block_of b) (ahead_of s u)
-as_chosen s f t C.Back = T.backs
-as_chosen s f t (C.Refused r) = T.halts r.number (record { place = r.place; line = r.line })
+abbrev pub as_chosen : List ℕ → Frame → Token → Result Chosen Refusal → T.Step ℕ Mark (Rec ℕ)
+as_chosen s f t (Ok (C.Runs row u)) = runs (frame_of s f) (ahead_of s t) (ahead_of s u) (act_of row.head row.items)
+as_chosen s f t (Ok (C.Goes u b)) = T.goes (block_of b) (ahead_of s u)
+as_chosen s f t (Ok C.Back) = T.backs
+as_chosen s f t (Err r) = T.halts r.number (record { place = r.place; line = r.line })
 
 -- a row whose items follow gives a record or ends the block
-abbrev pub runs_low : Chosen → Type 0
-runs_low (C.Runs row u) = row.head % 256 ≤ 64
-runs_low (C.Goes u b) = Unit {0}
-runs_low C.Back = Unit {0}
-runs_low (C.Refused r) = Unit {0}
+abbrev pub runs_low : Result Chosen Refusal → Type 0
+runs_low (Ok (C.Runs row u)) = row.head % 256 ≤ 64
+runs_low (Ok (C.Goes u b)) = Unit {0}
+runs_low (Ok C.Back) = Unit {0}
+runs_low (Err r) = Unit {0}
 
 -- the word was taken, and is then looked at
 abbrev pub worded_by : ℕ → Open ℕ → Ahead ℕ Mark → Body → Answer ℕ Mark (Tok ℕ Mark) → T.Step ℕ Mark (Rec ℕ)

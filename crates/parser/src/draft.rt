@@ -1,17 +1,16 @@
 // The items one by one: what each takes, and what it sets of the record that is being read.
 ghost use Rattle.std.specs.Prelude.{◌≡◌, List, ℕ, ◌+◌, ◌-◌, ◌<◌, ltb, length};
 ghost use Rattle.grammar.specs.Grammar as G;
-ghost use Rattle.grammar.specs.Table.{versions, microns};
-ghost use Rattle.grammar.specs.Tokens.{Ahead};
+ghost use Rattle.grammar.specs.Tokens.{Ahead, ok, then};
 ghost use Rattle.grammar.specs.Engine.{Frame, Draft, empty, item};
 ghost use Rattle.grammar.specs.Reading.{Mark};
-ghost use Rattle.parser.specs.Code.{ahead_of, Took};
+ghost use Rattle.parser.specs.Code.{ahead_of, Took, as_word};
 ghost use Rattle.parser.specs.Kept.{name_in};
-ghost use Rattle.parser.specs.Drafts.{draft_of, as_drafted, flatly, why_drafted, ReadsKey, ReadsKeyword};
+ghost use Rattle.parser.specs.Drafts.{draft_of, as_drafted, flatly};
 
-use crate::take::{Number, Taken, Word};
-use crate::{take, words};
-use lexer::Token;
+use crate::take;
+use crate::take::Taken;
+use lexer::{Kind, Token};
 use refusal::Refusal;
 use rows::item;
 
@@ -27,96 +26,43 @@ pub struct Sketch {
     pub first: u64,
 }
 
-// The sketch, and the token then held.
-#[derive(Clone, Copy)]
-pub enum Drafted {
-    Next(Sketch, Token),
-    Refused(Refusal),
-}
-
-// What an item was refused for.
-pub fn drafted_refusal(a: Drafted) -> Refusal
-    ensures { result ≡ why_drafted a }
-{
-    match a {
-        Drafted::Next(_, next) => take::complain(0, next),
-        Drafted::Refused(r) => r,
-    }
-}
-
 // A number, as x or as y.
-pub(crate) fn to_number(lent: &&[u8], it: u64, d: Sketch, held: Token, next: Token) -> Drafted
-    ensures x { it ≡ 1 → (f : Frame ℕ) (b : Draft ℕ) (a : Ahead ℕ Mark) → Took lent.now.now held next a → as_drafted lent.now.now b result ≡ flatly (item f G.x (draft_of lent.now.now b d) a) }
-    ensures y { it ≡ 2 → (f : Frame ℕ) (b : Draft ℕ) (a : Ahead ℕ Mark) → Took lent.now.now held next a → as_drafted lent.now.now b result ≡ flatly (item f G.y (draft_of lent.now.now b d) a) }
+pub(crate) fn to_number(
+    lent: &&[u8],
+    it: u64,
+    d: Sketch,
+    t: Taken,
+) -> Result<(Sketch, Token), Refusal>
+    ensures x { it ≡ 1 → (f : Frame ℕ) (b : Draft ℕ) (a : Ahead ℕ Mark) → Took lent.now.now t.token t.held a → as_drafted lent.now.now b result ≡ flatly (item f G.x (draft_of lent.now.now b d) a) }
+    ensures y { it ≡ 2 → (f : Frame ℕ) (b : Draft ℕ) (a : Ahead ℕ Mark) → Took lent.now.now t.token t.held a → as_drafted lent.now.now b result ≡ flatly (item f G.y (draft_of lent.now.now b d) a) }
 {
-    let a = take::parse_number(lent, held, next);
-    let Number::Value(v, next) = a else {
-        return Drafted::Refused(take::number_refusal(a));
-    };
+    let (v, next) = t.parse_number(lent)?;
     if it == item::X {
-        return Drafted::Next(
-            Sketch {
-                name: d.name,
-                len: d.len,
-                x: v,
-                y: d.y,
-                code: d.code,
-                first: d.first,
-            },
-            next,
-        );
+        return Ok((Sketch { x: v, ..d }, next));
     }
-    Drafted::Next(
-        Sketch {
-            name: d.name,
-            len: d.len,
-            x: d.x,
-            y: v,
-            code: d.code,
-            first: d.first,
-        },
-        next,
-    )
+    Ok((Sketch { y: v, ..d }, next))
 }
 
-pub(crate) fn to_semi(d: Sketch, held: Token, next: Token) -> Drafted
-    ensures { (s : List ℕ) (f : Frame ℕ) (b : Draft ℕ) (a : Ahead ℕ Mark) → Took s held next a → as_drafted s b result ≡ flatly (item f G.semi (draft_of s b d) a) }
+pub(crate) fn to_semi(d: Sketch, t: Taken) -> Result<(Sketch, Token), Refusal>
+    ensures { (s : List ℕ) (f : Frame ℕ) (b : Draft ℕ) (a : Ahead ℕ Mark) → Took s t.token t.held a → as_drafted s b result ≡ flatly (item f G.semi (draft_of s b d) a) }
 {
-    let a = take::expect(held, next, Token::SEMICOLON);
-    let Taken::Next(next) = a else {
-        return Drafted::Refused(take::taken_refusal(a));
-    };
-    Drafted::Next(d, next)
+    let next = t.expect(Kind::SemiColon)?;
+    Ok((d, next))
 }
 
 // The record's name.
-pub(crate) fn to_name(d: Sketch, held: Token, next: Token) -> Drafted
-    ensures { (s : List ℕ) (f : Frame ℕ) (b : Draft ℕ) (a : Ahead ℕ Mark) → Took s held next a → as_drafted s b result ≡ flatly (item f G.name (draft_of s b d) a) }
+pub(crate) fn to_name(d: Sketch, t: Taken) -> Result<(Sketch, Token), Refusal>
+    ensures { (s : List ℕ) (f : Frame ℕ) (b : Draft ℕ) (a : Ahead ℕ Mark) → Took s t.token t.held a → as_drafted s b result ≡ flatly (item f G.name (draft_of s b d) a) }
 {
-    let a = take::get_name(held, next);
-    let Taken::Next(next) = a else {
-        return Drafted::Refused(take::taken_refusal(a));
-    };
-    Drafted::Next(
+    let next = t.get_name()?;
+    Ok((
         Sketch {
-            name: held.start,
-            len: width(held),
-            x: d.x,
-            y: d.y,
-            code: d.code,
-            first: d.first,
+            name: t.token.start,
+            len: t.token.stop.saturating_sub(t.token.start),
+            ..d
         },
         next,
-    )
-}
-
-// How many bytes a token has.
-fn width(t: Token) -> usize
-    ensures { result ≡ t.stop - t.start }
-{
-    let a = t.start;
-    let e = t.stop;
-    if e < a { 0 } else { e - a }
+    ))
 }
 
 // The block's name again.
@@ -125,111 +71,80 @@ pub(crate) fn to_own(
     title: usize,
     len: usize,
     d: Sketch,
-    held: Token,
-    next: Token,
-) -> Drafted
-    ensures { (f : Frame ℕ) (b : Draft ℕ) (a : Ahead ℕ Mark) → Took lent.now.now held next a → f.label ≡ name_in lent.now.now title len → as_drafted lent.now.now b result ≡ flatly (item f G.own (draft_of lent.now.now b d) a) }
+    t: Taken,
+) -> Result<(Sketch, Token), Refusal>
+    ensures { (f : Frame ℕ) (b : Draft ℕ) (a : Ahead ℕ Mark) → Took lent.now.now t.token t.held a → f.label ≡ name_in lent.now.now title len → as_drafted lent.now.now b result ≡ flatly (item f G.own (draft_of lent.now.now b d) a) }
 {
-    let a = take::expect_ident(lent, held, next, title, len);
-    let Taken::Next(next) = a else {
-        return Drafted::Refused(take::taken_refusal(a));
-    };
-    Drafted::Next(d, next)
+    let next = t.expect_ident(lent, title, len)?;
+    Ok((d, next))
 }
 
 // So many bytes in quotes, as the record's name.
-pub(crate) fn to_string(lent: &&[u8], n: u64, d: Sketch, held: Token, next: Token) -> Drafted
+pub(crate) fn to_string(
+    lent: &&[u8],
+    n: u64,
+    d: Sketch,
+    t: Taken,
+) -> Result<(Sketch, Token), Refusal>
     requires { n < 256 }
-    ensures { (f : Frame ℕ) (b : Draft ℕ) (a : Ahead ℕ Mark) → Took lent.now.now held next a → as_drafted lent.now.now b result ≡ flatly (item f (G.string n) (draft_of lent.now.now b d) a) }
+    ensures { (f : Frame ℕ) (b : Draft ℕ) (a : Ahead ℕ Mark) → Took lent.now.now t.token t.held a → as_drafted lent.now.now b result ≡ flatly (item f (G.string n) (draft_of lent.now.now b d) a) }
 {
-    let a = take::expect(held, next, Token::STRING_LITERAL);
-    let Taken::Next(next) = a else {
-        return Drafted::Refused(take::taken_refusal(a));
-    };
-    let text = *lent;
-    if take::txt(text, held).len() != (n + 2) as usize {
-        return Drafted::Refused(take::complain(6, next));
+    let next = t.expect(Kind::StringLiteral)?;
+    if take::txt(*lent, t.token).len() != (n + 2) as usize {
+        return Err(take::complain(6, next));
     }
-    Drafted::Next(
+    Ok((
         Sketch {
-            name: inside(text, held.start),
+            name: t.token.start + 1,
             len: n as usize,
-            x: d.x,
-            y: d.y,
-            code: d.code,
-            first: d.first,
+            ..d
         },
         next,
-    )
+    ))
 }
 
-// Where the bytes in quotes start, of a string that starts in the text.
-fn inside(text: &[u8], start: usize) -> usize
-    requires { start < length text.now }
-    ensures { result ≡ start + 1 }
+// Nothing is set by a word that was asked for.
+pub(crate) fn unchanged(
+    d: Sketch,
+    taken: Result<(u8, Token), Refusal>,
+) -> Result<(Sketch, Token), Refusal>
+    ensures { (s : List ℕ) (b : Draft ℕ) → as_drafted s b result ≡ then (as_word s taken) (λ n a. ok (draft_of s b d) a) }
 {
-    start + 1
-}
-
-// The key word with the number.
-pub(crate) fn to_key(lent: &&[u8], key: u8, d: Sketch, held: Token, next: Token) -> Drafted
-    ensures { ReadsKey lent.now.now d held next key result }
-{
-    let a = take::expect_key(lent, held, next, key);
-    let Word::Is(_, next) = a else {
-        return Drafted::Refused(take::word_refusal(a));
-    };
-    Drafted::Next(d, next)
-}
-
-// The word with the number, be it a key word or not.
-pub(crate) fn to_keyword(lent: &&[u8], key: u8, d: Sketch, held: Token, next: Token) -> Drafted
-    ensures { ReadsKeyword lent.now.now d held next key result }
-{
-    let a = take::expect_keyword(lent, held, next, key);
-    let Word::Is(_, next) = a else {
-        return Drafted::Refused(take::word_refusal(a));
-    };
-    Drafted::Next(d, next)
+    let (_, next) = taken?;
+    Ok((d, next))
 }
 
 // No name may be held.
-pub(crate) fn no_name(d: Sketch, held: Token) -> Drafted
+pub(crate) fn no_name(d: Sketch, held: Token) -> Result<(Sketch, Token), Refusal>
     ensures { (s : List ℕ) (f : Frame ℕ) (b : Draft ℕ) → as_drafted s b result ≡ flatly (item f G.no_name (draft_of s b d) (ahead_of s held)) }
 {
-    let k = held.kind;
-    if k == Token::NAME {
-        return Drafted::Refused(take::complain(8, held));
+    if held.kind == Kind::Name {
+        return Err(take::complain(8, held));
     }
-    Drafted::Next(d, held)
+    Ok((d, held))
 }
 
 // The block may lack nothing.
-pub(crate) fn to_whole(number: usize, lacks: u64, d: Sketch, held: Token) -> Drafted
+pub(crate) fn to_whole(
+    number: usize,
+    lacks: u64,
+    d: Sketch,
+    held: Token,
+) -> Result<(Sketch, Token), Refusal>
     ensures { (s : List ℕ) (f : Frame ℕ) (b : Draft ℕ) → empty f.lacks ≡ ltb lacks 256 → as_drafted s b result ≡ flatly (item f (G.whole number) (draft_of s b d) (ahead_of s held)) }
 {
     if lacks < 256 {
-        return Drafted::Next(d, held);
+        return Ok((d, held));
     }
-    Drafted::Refused(take::complain(number, held))
+    Err(take::complain(number, held))
 }
 
-// x must be a version.
-pub(crate) fn to_version(d: Sketch, held: Token) -> Drafted
-    ensures { (s : List ℕ) (f : Frame ℕ) (b : Draft ℕ) → as_drafted s b result ≡ flatly (item f (G.among versions) (draft_of s b d) (ahead_of s held)) }
+// x must be one of the numbers.
+pub(crate) fn to_among(numbers: &[u64], d: Sketch, held: Token) -> Result<(Sketch, Token), Refusal>
+    ensures { (s : List ℕ) (f : Frame ℕ) (b : Draft ℕ) → as_drafted s b result ≡ flatly (item f (G.among numbers.now) (draft_of s b d) (ahead_of s held)) }
 {
-    if words::is_version(d.x) {
-        return Drafted::Next(d, held);
+    if numbers.contains(&d.x) {
+        return Ok((d, held));
     }
-    Drafted::Refused(take::complain(6, held))
-}
-
-// x must be a number of units.
-pub(crate) fn to_microns(d: Sketch, held: Token) -> Drafted
-    ensures { (s : List ℕ) (f : Frame ℕ) (b : Draft ℕ) → as_drafted s b result ≡ flatly (item f (G.among microns) (draft_of s b d) (ahead_of s held)) }
-{
-    if words::is_microns(d.x) {
-        return Drafted::Next(d, held);
-    }
-    Drafted::Refused(take::complain(6, held))
+    Err(take::complain(6, held))
 }

@@ -1,18 +1,19 @@
 // What the innermost block makes of what is ahead: the row that it has for it, and the row's items.
-ghost use Rattle.std.specs.Prelude.{◌≡◌, cond, List, ℕ, ◌%◌, ◌≤◌, eqb, length};
+ghost use Rattle.std.specs.Prelude.{◌≡◌, cond, List, ℕ, ◌%◌, ◌≤◌, eqb};
 ghost use Rattle.grammar.specs.Table.{body};
 ghost use Rattle.grammar.specs.Engine.{blank};
 ghost use Rattle.grammar.specs.Reading.{filed, owner_at};
 ghost use Rattle.rows.specs.Packed.{block_of, act_of};
 ghost use Rattle.parser.specs.Code.{ahead_of};
-ghost use Rattle.parser.specs.Kept.{name_in, frame_of};
+ghost use Rattle.parser.specs.Kept.{frame_of};
 ghost use Rattle.parser.specs.Drafts.{draft_of};
 ghost use Rattle.parser.specs.Stepped.{as_step, step_in, filed_step, runs};
 
-use crate::draft::{Drafted, Sketch, drafted_refusal};
+use crate::draft::Sketch;
 use crate::items::items;
 use crate::open::Frame;
 use crate::step::{Chosen, choose};
+use crate::take;
 use lexer::Token;
 use record::Record;
 use refusal::Refusal;
@@ -28,36 +29,32 @@ pub enum Step {
     Goes(Token, u64),
     // The block has ended, and what is ahead is the enclosing block's.
     Back,
-    Refused(Refusal),
 }
 
 // One step in the block f, while the version is in force and the token is held.
-pub fn step_in(lent: &&[u8], version: u64, f: Frame, held: Token) -> Step
+pub fn step_in(lent: &&[u8], version: u64, f: Frame, held: Token) -> Result<Step, Refusal>
     ensures { as_step lent.now.now result ≡ step_in lent.now.now version (frame_of lent.now.now f) held (body (block_of f.block)) }
 {
-    match choose(lent, version, f, held) {
+    let chosen = choose(lent, version, f, held)?;
+    match chosen {
         Chosen::Runs(row, first) => run(lent, f, row, held, first),
-        Chosen::Goes(next, block) => Step::Goes(next, block),
-        Chosen::Back => Step::Back,
-        Chosen::Refused(r) => Step::Refused(r),
+        Chosen::Goes(next, block) => Ok(Step::Goes(next, block)),
+        Chosen::Back => Ok(Step::Back),
     }
 }
 
 // The items of a row from the token `first` on, of a statement that starts with the token held.
-fn run(lent: &&[u8], f: Frame, row: Row, held: Token, first: Token) -> Step
+fn run(lent: &&[u8], f: Frame, row: Row, held: Token, first: Token) -> Result<Step, Refusal>
     requires { row.head % 256 ≤ 64 }
     ensures { as_step lent.now.now result ≡ filed_step (runs (frame_of lent.now.now f) (ahead_of lent.now.now held) (ahead_of lent.now.now first) (act_of row.head row.items)) }
 {
     let act = row.head % 256;
     let kind = kind_of(act);
-    let answer = items(lent, row.items, kind, f, first);
-    let Drafted::Next(d, next) = answer else {
-        return Step::Refused(drafted_refusal(answer));
-    };
+    let (d, next) = items(lent, row.items, kind, f, first)?;
     if act == act::CLOSE {
-        return Step::Ends(next);
+        return Ok(Step::Ends(next));
     }
-    Step::Gives(next, record_of(lent, kind, f, held, d), row.head / 256)
+    Ok(Step::Gives(next, record_of(lent, kind, f, held, d), row.head / 256))
 }
 
 // The kind of the record that an act gives, and 0 where the block ends.
@@ -81,7 +78,7 @@ fn record_of(lent: &&[u8], kind: u8, f: Frame, held: Token, d: Sketch) -> Record
         held.start,
         owner_of(f),
         d.name,
-        within(lent, d.name, d.len),
+        take::part(*lent, d.name, d.len).len(),
         d.x,
         d.y,
     )
@@ -91,24 +88,8 @@ fn record_of(lent: &&[u8], kind: u8, f: Frame, held: Token, d: Sketch) -> Record
 fn owner_of(f: Frame) -> usize
     ensures { (s : List ℕ) → result ≡ owner_at (frame_of s f).at }
 {
-    let b = f.block;
-    if b == block::LIBRARY {
+    if f.block == block::LIBRARY {
         return Record::LIBRARY;
     }
     f.at
-}
-
-// So many bytes from a place on, as far as the text goes.
-fn within(lent: &&[u8], start: usize, len: usize) -> usize
-    ensures { result ≡ length (name_in lent.now.now start len) }
-{
-    let text = *lent;
-    if text.len() <= start {
-        return 0;
-    }
-    if text.len() - start < len {
-        text.len() - start
-    } else {
-        len
-    }
 }

@@ -10,16 +10,23 @@ ghost use Rattle.parser.specs.Code.{ahead_of, Took};
 ghost use Rattle.parser.specs.Kept.{frame_of};
 ghost use Rattle.parser.specs.Drafts.{draft_of, as_drafted, flatly, shown, emptied};
 
-use crate::draft::{Drafted, Sketch};
+use crate::draft::Sketch;
 use crate::open::Frame;
 use crate::take::Taken;
-use crate::{draft, take, value};
-use lexer::Token;
+use crate::{draft, take, value, words};
+use lexer::{Kind, Token};
+use refusal::Refusal;
 use rows::item;
 use word::names;
 
 // The items of a list, for a record of the kind in the block f.
-pub fn items(lent: &&[u8], list: u64, kind: u8, f: Frame, held: Token) -> Drafted
+pub fn items(
+    lent: &&[u8],
+    list: u64,
+    kind: u8,
+    f: Frame,
+    held: Token,
+) -> Result<(Sketch, Token), Refusal>
     ensures { (b : Draft ℕ) → b.rec.kind ≡ kind → shown (as_drafted lent.now.now b result) ≡ shown (items 0 (frame_of lent.now.now f) (items_of list) (emptied b) (ahead_of lent.now.now held)) }
 {
     let mut d = Sketch {
@@ -35,42 +42,33 @@ pub fn items(lent: &&[u8], list: u64, kind: u8, f: Frame, held: Token) -> Drafte
     while s != 0 {
         let it = s % 256;
         if (item::NO_NAME <= it) & (it < item::STRING) {
-            let answer = looked(lent, it, kind, f, d, t);
-            let Drafted::Next(e, u) = answer else {
-                return answer;
-            };
-            d = e;
-            t = u;
-            s = rows::skip(s / 256, passed(it, u));
+            (d, t) = looked(lent, it, kind, f, d, t)?;
+            s = rows::skip(s / 256, passed(it, t));
         } else {
-            let a = take::next_near(lent, t);
-            let Taken::Next(next) = a else {
-                return Drafted::Refused(take::taken_refusal(a));
+            let next = take::next_near(lent, t)?;
+            let taken = Taken {
+                token: t,
+                held: next,
             };
-            let answer = judged(lent, it, kind, f, d, t, next);
-            let Drafted::Next(e, _) = answer else {
-                return answer;
-            };
-            d = e;
+            (d, _) = judged(lent, it, kind, f, d, taken)?;
             t = next;
             s /= 256;
         }
     }
-    Drafted::Next(d, t)
+    Ok((d, t))
 }
 
 // How many of the items that follow are passed over.
 fn passed(it: u64, held: Token) -> u64
     ensures { (s : List ℕ) → result ≡ passed (item_at it) (ahead_of s held) }
 {
-    let k = held.kind;
     if it < item::IF_MORE {
         return 0;
     }
     if item::WHOLE <= it {
         return 0;
     }
-    if k == Token::SEMICOLON {
+    if held.kind == Kind::SemiColon {
         it - item::IF_MORE
     } else {
         0
@@ -78,7 +76,14 @@ fn passed(it: u64, held: Token) -> u64
 }
 
 // An item that need not take a token: those of the bytes from 16 to 95.
-fn looked(lent: &&[u8], it: u64, kind: u8, f: Frame, d: Sketch, held: Token) -> Drafted
+fn looked(
+    lent: &&[u8],
+    it: u64,
+    kind: u8,
+    f: Frame,
+    d: Sketch,
+    held: Token,
+) -> Result<(Sketch, Token), Refusal>
     ensures { (b : Draft ℕ) → b.rec.kind ≡ kind → 16 ≤ it → it < 96 → as_drafted lent.now.now b result ≡ flatly (item (frame_of lent.now.now f) (item_at it) (draft_of lent.now.now b d) (ahead_of lent.now.now held)) }
 {
     if it == item::NO_NAME {
@@ -88,20 +93,16 @@ fn looked(lent: &&[u8], it: u64, kind: u8, f: Frame, d: Sketch, held: Token) -> 
         return value::to_second(lent, kind, d, held);
     }
     if it < item::IF_MORE {
-        return Drafted::Next(
+        return Ok((
             Sketch {
-                name: d.name,
-                len: d.len,
-                x: d.x,
-                y: d.y,
                 code: it - item::CODE,
-                first: d.first,
+                ..d
             },
             held,
-        );
+        ));
     }
     if it < item::WHOLE {
-        return Drafted::Next(d, held);
+        return Ok((d, held));
     }
     if it < item::VERSIONS {
         return draft::to_whole((it - item::WHOLE) as usize, f.lacks, d, held);
@@ -110,31 +111,38 @@ fn looked(lent: &&[u8], it: u64, kind: u8, f: Frame, d: Sketch, held: Token) -> 
 }
 
 // An item that takes the token held: those of the other bytes. After it `next` is held.
-fn judged(lent: &&[u8], it: u64, kind: u8, f: Frame, d: Sketch, held: Token, next: Token) -> Drafted
-    ensures { (b : Draft ℕ) (a : Ahead ℕ Mark) → Took lent.now.now held next a → b.rec.kind ≡ kind → (16 ≤ it → 96 ≤ it) → as_drafted lent.now.now b result ≡ flatly (item (frame_of lent.now.now f) (item_at it) (draft_of lent.now.now b d) a) }
+fn judged(
+    lent: &&[u8],
+    it: u64,
+    kind: u8,
+    f: Frame,
+    d: Sketch,
+    t: Taken,
+) -> Result<(Sketch, Token), Refusal>
+    ensures { (b : Draft ℕ) (a : Ahead ℕ Mark) → Took lent.now.now t.token t.held a → b.rec.kind ≡ kind → (16 ≤ it → 96 ≤ it) → as_drafted lent.now.now b result ≡ flatly (item (frame_of lent.now.now f) (item_at it) (draft_of lent.now.now b d) a) }
 {
     match it {
-        item::X | item::Y => draft::to_number(lent, it, d, held, next),
-        item::NAME => draft::to_name(d, held, next),
-        item::OWN => draft::to_own(lent, f.title, f.len, d, held, next),
-        item::VALUE => value::to_value(lent, kind, d, held, next),
-        item::FIRST => value::to_first(lent, kind, d, held, next),
-        item::FIRST_KEY => value::to_first_key(lent, kind, d, held, next),
-        _ => asked(lent, it, d, held, next),
+        item::X | item::Y => draft::to_number(lent, it, d, t),
+        item::NAME => draft::to_name(d, t),
+        item::OWN => draft::to_own(lent, f.title, f.len, d, t),
+        item::VALUE => value::to_value(lent, kind, d, t),
+        item::FIRST => value::to_first(lent, kind, d, t),
+        item::FIRST_KEY => value::to_first_key(lent, kind, d, t),
+        _ => asked(lent, it, d, t),
     }
 }
 
 // The `;`, a string, or a word by its number.
-fn asked(lent: &&[u8], it: u64, d: Sketch, held: Token, next: Token) -> Drafted
-    ensures { (f : Open ℕ) (b : Draft ℕ) (a : Ahead ℕ Mark) → Took lent.now.now held next a → (it < 96 → item_at it ≡ G.semi) → as_drafted lent.now.now b result ≡ flatly (item f (item_at it) (draft_of lent.now.now b d) a) }
+fn asked(lent: &&[u8], it: u64, d: Sketch, t: Taken) -> Result<(Sketch, Token), Refusal>
+    ensures { (f : Open ℕ) (b : Draft ℕ) (a : Ahead ℕ Mark) → Took lent.now.now t.token t.held a → (it < 96 → item_at it ≡ G.semi) → as_drafted lent.now.now b result ≡ flatly (item f (item_at it) (draft_of lent.now.now b d) a) }
 {
     if it < item::STRING {
-        return draft::to_semi(d, held, next);
+        return draft::to_semi(d, t);
     }
     if it < item::KEY {
-        return spelt(lent, it, d, held, next);
+        return spelt(lent, it, d, t);
     }
-    draft::to_key(lent, key_of(it), d, held, next)
+    draft::unchanged(d, t.expect_key(lent, key_of(it)))
 }
 
 // The number of the key word that an item asks for, or 0.
@@ -151,25 +159,25 @@ fn key_of(it: u64) -> u8
 }
 
 // x is one of the numbers that the item lists.
-fn among(it: u64, d: Sketch, held: Token) -> Drafted
+fn among(it: u64, d: Sketch, held: Token) -> Result<(Sketch, Token), Refusal>
     ensures { (s : List ℕ) (f : Open ℕ) (b : Draft ℕ) → 80 ≤ it → it < 96 → as_drafted s b result ≡ flatly (item f (item_at it) (draft_of s b d) (ahead_of s held)) }
 {
     if it == item::VERSIONS {
-        return draft::to_version(d, held);
+        return draft::to_among(&words::VERSIONS, d, held);
     }
-    draft::to_microns(d, held)
+    draft::to_among(&words::MICRONS, d, held)
 }
 
 // A string of so many bytes, or a word that need not be a key word.
-fn spelt(lent: &&[u8], it: u64, d: Sketch, held: Token, next: Token) -> Drafted
+fn spelt(lent: &&[u8], it: u64, d: Sketch, t: Taken) -> Result<(Sketch, Token), Refusal>
     requires { (96 ≤ it) × (it < 128) }
-    ensures { (f : Open ℕ) (b : Draft ℕ) (a : Ahead ℕ Mark) → Took lent.now.now held next a → as_drafted lent.now.now b result ≡ flatly (item f (item_at it) (draft_of lent.now.now b d) a) }
+    ensures { (f : Open ℕ) (b : Draft ℕ) (a : Ahead ℕ Mark) → Took lent.now.now t.token t.held a → as_drafted lent.now.now b result ≡ flatly (item f (item_at it) (draft_of lent.now.now b d) a) }
 {
     if it == item::WORD_MICRONS {
-        return draft::to_keyword(lent, names::MICRONS, d, held, next);
+        return draft::unchanged(d, t.expect_keyword(lent, names::MICRONS));
     }
     if it == item::WORD_UNITS {
-        return draft::to_keyword(lent, names::UNITS, d, held, next);
+        return draft::unchanged(d, t.expect_keyword(lent, names::UNITS));
     }
-    draft::to_string(lent, it - item::STRING, d, held, next)
+    draft::to_string(lent, it - item::STRING, d, t)
 }

@@ -12,10 +12,9 @@ ghost use Rattle.lexer.specs.declared.Token.{Token};
 ghost use Rattle.parser.specs.declared.open.Frame.{Frame};
 
 use crate::open::Frame;
-use crate::peek::Peeked;
 use crate::take::Taken;
 use crate::{peek, take};
-use lexer::Token;
+use lexer::{Kind, Token};
 use refusal::Refusal;
 use rows::{Row, act, form};
 
@@ -27,17 +26,14 @@ pub enum Chosen {
     Goes(Token, u64),
     // The block has ended, and what is ahead is the enclosing block's.
     Back,
-    Refused(Refusal),
 }
 
 // What the block f has for the token held, while the version is in force.
-pub fn choose(lent: &&[u8], version: u64, f: Frame, held: Token) -> Chosen
+pub fn choose(lent: &&[u8], version: u64, f: Frame, held: Token) -> Result<Chosen, Refusal>
     ensures of { as_chosen lent.now.now f held result ≡ T.step version (frame_of lent.now.now f) (ahead_of lent.now.now held) (body (block_of f.block)) }
     ensures low { runs_low result }
 {
-    let block = f.block;
-    let form = rows::form_of(block);
-    match form {
+    match rows::form_of(f.block) {
         form::KEYED => keyed(lent, version, f, held),
         form::PARTS => parts(f, held),
         form::COUNTED => counted(f, held),
@@ -47,28 +43,21 @@ pub fn choose(lent: &&[u8], version: u64, f: Frame, held: Token) -> Chosen
 
 // The word is looked at while it is held. Nearly all rows hold at every version and take the word: they are told first, since choosing
 // between a row and what it is at another version took a twentieth of reading.
-fn keyed(lent: &&[u8], version: u64, f: Frame, held: Token) -> Chosen
+fn keyed(lent: &&[u8], version: u64, f: Frame, held: Token) -> Result<Chosen, Refusal>
     ensures of { form_in f.block ≡ 0 → as_chosen lent.now.now f held result ≡ T.step version (frame_of lent.now.now f) (ahead_of lent.now.now held) (body (block_of f.block)) }
     ensures low { runs_low result }
 {
-    let p = peek::peek_key(lent, held);
-    let Peeked::Is(key) = p else {
-        return Chosen::Refused(peek::peeked_refusal(p, held));
-    };
-    let block = f.block;
-    let row = rows::row_of(block, key);
+    let key = peek::peek_key(lent, held)?;
+    let row = rows::row_of(f.block, key);
     if act::CLOSE < row.head % 256 {
         return perform(lent, version, row, held);
     }
-    let a = take::next_token(lent, held);
-    let Taken::Next(first) = a else {
-        return Chosen::Refused(take::taken_refusal(a));
-    };
-    Chosen::Runs(row, first)
+    let first = take::next_token(lent, held)?;
+    Ok(Chosen::Runs(row, first))
 }
 
 // What a row does at this version while its word is held.
-fn perform(lent: &&[u8], version: u64, any: Row, held: Token) -> Chosen
+fn perform(lent: &&[u8], version: u64, any: Row, held: Token) -> Result<Chosen, Refusal>
     ensures of { (f : Frame) → as_chosen lent.now.now f held result ≡ T.perform version (frame_of lent.now.now f) (ahead_of lent.now.now held) (next_token (ahead_of lent.now.now held)) (ahead_of lent.now.now held).held.mark (act_of any.head any.items) }
     ensures low { runs_low result }
 {
@@ -77,95 +66,80 @@ fn perform(lent: &&[u8], version: u64, any: Row, held: Token) -> Chosen
     if act::CLOSE < act {
         return stopped(act, held);
     }
-    let a = take::next_token(lent, held);
-    let Taken::Next(first) = a else {
-        return Chosen::Refused(take::taken_refusal(a));
-    };
-    Chosen::Runs(row, first)
+    let first = take::next_token(lent, held)?;
+    Ok(Chosen::Runs(row, first))
 }
 
 // The word is taken before it is looked at.
-fn worded(lent: &&[u8], version: u64, f: Frame, held: Token) -> Chosen
+fn worded(lent: &&[u8], version: u64, f: Frame, held: Token) -> Result<Chosen, Refusal>
     ensures of { as_chosen lent.now.now f held result ≡ worded_by version (frame_of lent.now.now f) (ahead_of lent.now.now held) (body (block_of f.block)) (get_name (ahead_of lent.now.now held)) }
     ensures low { runs_low result }
 {
-    let t = take::next_token(lent, held);
-    let Taken::Next(next) = t else {
-        return Chosen::Refused(take::taken_refusal(t));
+    let next = take::next_token(lent, held)?;
+    let taken = Taken {
+        token: held,
+        held: next,
     };
-    let a = take::get_name(held, next);
-    let Taken::Next(first) = a else {
-        return Chosen::Refused(take::taken_refusal(a));
-    };
-    let block = f.block;
+    let first = taken.get_name()?;
     let row = settled(
         version,
-        rows::row_of(block, word::word_in(lent, held.start, held.stop)),
+        rows::row_of(f.block, word::word_in(lent, held.start, held.stop)),
     );
     let act = row.head % 256;
     if act::CLOSE < act {
         return stopped(act, first);
     }
-    Chosen::Runs(row, first)
+    Ok(Chosen::Runs(row, first))
 }
 
 // A word that is taken, or the `;` that ends options. Both forms of block come here, so that `worded` has one caller.
-fn spoken(lent: &&[u8], version: u64, f: Frame, held: Token) -> Chosen
+fn spoken(lent: &&[u8], version: u64, f: Frame, held: Token) -> Result<Chosen, Refusal>
     ensures of { (form_in f.block ≡ 0 → ⊥) → (form_in f.block ≡ 3 → ⊥) → (form_in f.block ≡ 4 → ⊥) → as_chosen lent.now.now f held result ≡ T.step version (frame_of lent.now.now f) (ahead_of lent.now.now held) (body (block_of f.block)) }
     ensures low { runs_low result }
 {
-    let block = f.block;
-    let form = rows::form_of(block);
-    let kind = held.kind;
-    if (form != form::OPTIONS) | (kind != Token::SEMICOLON) {
+    let form = rows::form_of(f.block);
+    if (form != form::OPTIONS) | (held.kind != Kind::SemiColon) {
         return worded(lent, version, f, held);
     }
-    let a = take::next_token(lent, held);
-    let Taken::Next(next) = a else {
-        return Chosen::Refused(take::taken_refusal(a));
-    };
-    Chosen::Goes(next, rows::after_options(block))
+    let next = take::next_token(lent, held)?;
+    Ok(Chosen::Goes(next, rows::after_options(f.block)))
 }
 
 // A part, or the `;` that ends them.
-fn parts(f: Frame, held: Token) -> Chosen
+fn parts(f: Frame, held: Token) -> Result<Chosen, Refusal>
     ensures of { form_in f.block ≡ 3 → (s : List ℕ) (v : ℕ) → as_chosen s f held result ≡ T.step v (frame_of s f) (ahead_of s held) (body (block_of f.block)) }
     ensures low { form_in f.block ≡ 3 → runs_low result }
 {
-    let kind = held.kind;
-    if kind == Token::SEMICOLON {
-        return Chosen::Runs(rows::end_of(form::PARTS), held);
+    if held.kind == Kind::SemiColon {
+        return Ok(Chosen::Runs(rows::end_of(form::PARTS), held));
     }
-    let block = f.block;
-    Chosen::Runs(rows::part_of(block), held)
+    Ok(Chosen::Runs(rows::part_of(f.block), held))
 }
 
 // A part, or the `;` after the last that the block lacked.
-fn counted(f: Frame, held: Token) -> Chosen
+fn counted(f: Frame, held: Token) -> Result<Chosen, Refusal>
     ensures of { form_in f.block ≡ 4 → (s : List ℕ) (v : ℕ) → as_chosen s f held result ≡ T.step v (frame_of s f) (ahead_of s held) (body (block_of f.block)) }
     ensures low { form_in f.block ≡ 4 → runs_low result }
 {
-    let lacks = f.lacks;
-    if lacks < 256 {
-        return Chosen::Runs(rows::end_of(form::COUNTED), held);
+    if f.lacks < 256 {
+        return Ok(Chosen::Runs(rows::end_of(form::COUNTED), held));
     }
-    let block = f.block;
-    Chosen::Runs(rows::part_of(block), held)
+    Ok(Chosen::Runs(rows::part_of(f.block), held))
 }
 
 // A row that takes nothing.
-fn stopped(act: u64, mark: Token) -> Chosen
+fn stopped(act: u64, mark: Token) -> Result<Chosen, Refusal>
     requires { (64 < act) × (act < 128) }
     ensures of { (s : List ℕ) (f : Frame) (held : Token) → as_chosen s f held result ≡ stopped_as act (ahead_of s mark).held.mark }
     ensures low { runs_low result }
 {
     if act == act::BACK {
-        return Chosen::Back;
+        return Ok(Chosen::Back);
     }
     if act < act::REFUSE {
-        return Chosen::Refused(take::complain(0, mark));
+        return Err(take::complain(0, mark));
     }
-    Chosen::Refused(take::complain((act - act::REFUSE) as usize, mark))
+    Err(take::complain((act - act::REFUSE) as usize, mark))
 }
 
 // The row at this version: what holds only up to 5.4 is the row without that, or refusal 5.
@@ -180,7 +154,7 @@ fn settled(version: u64, row: Row) -> Row
     if version <= 5400000 {
         Row {
             head: h - act::UP_TO_54,
-            items: row.items,
+            ..row
         }
     } else {
         Row {

@@ -1,39 +1,25 @@
 // Taking tokens, as the original's parser does: the token held is handed in, and the one held next comes back. Taking first
-// reads the next token, so a byte that starts none is refused before any complaint about the token taken. The takers are handed both
-// tokens, and judge the one taken.
-ghost use Rattle.std.specs.Prelude.{◌≡◌, List, ℕ, ◌-◌, take, drop};
+// reads the next token, so a byte that starts none is refused before any complaint about the token taken. The text is lent by one
+// more reference, which is handed on as it is: a word for each call where the slice itself takes two, since the reader's stack
+// stays below 16 KB.
+ghost use Rattle.std.specs.Prelude.{◌≡◌, cond, eqb, List, ℕ};
+ghost use Rattle.lexer.specs.Kinds.{number_of};
 ghost use Rattle.lexer.specs.Lex.{lex_from};
-ghost use Rattle.grammar.specs.Tokens.{Ahead, expect, next_token};
-ghost use Rattle.grammar.specs.Engine.{get_name, get_key, expect_key, expect_keyword, expect_ident, parse_number, parse_enum};
+ghost use Rattle.grammar.specs.Tokens.{Ahead, ok, complain, expect, next_token};
+ghost use Rattle.grammar.specs.Engine.{get_name, get_key, expect_key, expect_keyword, expect_ident, parse_number, coded, parse_enum};
 ghost use Rattle.grammar.specs.Reading.{Mark};
-ghost use Rattle.parser.specs.Code.{complaint, ahead_of, Took, held_next, as_taken, as_number, as_word, why_taken, why_number, why_word};
+ghost use Rattle.parser.specs.Code.{bytes_of, complaint, get_word, ahead_of, Took, held_next, as_taken, as_number, as_word};
 ghost use Rattle.parser.specs.Kept.{name_in};
-ghost use Rattle.word.specs.Words.{same};
 ghost use Rattle.word.specs.Codes.{code_of};
 
-use lexer::{Lexed, Token};
-use numeral::Value;
+use lexer::{Kind, Lexed, Token};
 use refusal::Refusal;
 
-// The token held after one was taken, or the refusal.
+// A token that is taken, and the one that is then held.
 #[derive(Clone, Copy)]
-pub enum Taken {
-    Next(Token),
-    Refused(Refusal),
-}
-
-// A number as a record stores it, and the token then held.
-#[derive(Clone, Copy)]
-pub enum Number {
-    Value(u64, Token),
-    Refused(Refusal),
-}
-
-// The number of a word or the code of a value, and the token then held.
-#[derive(Clone, Copy)]
-pub enum Word {
-    Is(u8, Token),
-    Refused(Refusal),
+pub struct Taken {
+    pub token: Token,
+    pub held: Token,
 }
 
 // A complaint while the token is held.
@@ -47,240 +33,170 @@ pub fn complain(number: usize, held: Token) -> Refusal
     }
 }
 
+// What the lexer finds, as the token that is then held: the end of the text has a kind of its own.
+fn hold(text: &[u8], found: Lexed) -> Result<Token, Refusal>
+    ensures { result ≡ held_next text.now found }
+{
+    match found {
+        Lexed::Found(t) => Ok(t),
+        Lexed::End(line) => Ok(Token {
+            start: text.len(),
+            stop: text.len(),
+            line,
+            kind: Kind::End,
+        }),
+        Lexed::Bad(place, line) => Err(Refusal::no_token(place, line)),
+    }
+}
+
 // Takes the token held.
-pub fn next_token(lent: &&[u8], held: Token) -> Taken
+pub fn next_token(lent: &&[u8], held: Token) -> Result<Token, Refusal>
     ensures { as_taken lent.now.now held result ≡ next_token (ahead_of lent.now.now held) }
 {
-    let kind = held.kind;
-    if kind == 0 {
-        return Taken::Refused(complain(4, held));
+    if held.kind == Kind::End {
+        return Err(complain(4, held));
     }
     token_from(lent, held.stop, held.line)
 }
 
 // The same, where mostly a space and then a short token come next.
-pub(crate) fn next_near(lent: &&[u8], held: Token) -> Taken
+pub(crate) fn next_near(lent: &&[u8], held: Token) -> Result<Token, Refusal>
     ensures { as_taken lent.now.now held result ≡ next_token (ahead_of lent.now.now held) }
 {
-    let kind = held.kind;
-    if kind == 0 {
-        return Taken::Refused(complain(4, held));
+    if held.kind == Kind::End {
+        return Err(complain(4, held));
     }
-    let text = *lent;
-    match lexer::lex_near(lent, held.stop, held.line) {
-        Lexed::Found(t) => Taken::Next(t),
-        Lexed::End(last) => Taken::Next(Token {
-            kind: 0,
-            start: text.len(),
-            stop: text.len(),
-            line: last,
-        }),
-        Lexed::Bad(bad, on) => Taken::Refused(Refusal::no_token(bad, on)),
-    }
+    hold(*lent, lexer::lex_near(lent, held.stop, held.line))
 }
 
 // The first token from a place of the text on, which is on the line given.
-pub fn token_from(lent: &&[u8], place: usize, line: usize) -> Taken
+pub fn token_from(lent: &&[u8], place: usize, line: usize) -> Result<Token, Refusal>
     ensures { result ≡ held_next lent.now.now (lex_from lent.now.now place line) }
 {
-    let text = *lent;
-    match lexer::lex_in(lent, place, line) {
-        Lexed::Found(t) => Taken::Next(t),
-        Lexed::End(last) => Taken::Next(Token {
-            kind: 0,
-            start: text.len(),
-            stop: text.len(),
-            line: last,
-        }),
-        Lexed::Bad(bad, on) => Taken::Refused(Refusal::no_token(bad, on)),
-    }
+    hold(*lent, lexer::lex_in(lent, place, line))
 }
 
-pub fn expect(held: Token, next: Token, kind: usize) -> Taken
-    ensures { (s : List ℕ) (a : Ahead ℕ Mark) → Took s held next a → as_taken s held result ≡ expect kind a }
+// So many bytes from a place on, as far as the text goes.
+pub fn part(text: &[u8], start: usize, len: usize) -> &[u8]
+    ensures { result.now ≡ name_in text.now start len }
 {
-    let k = held.kind;
-    if k == kind {
-        Taken::Next(next)
-    } else {
-        Taken::Refused(complain(4, next))
-    }
+    let from = start.min(text.len());
+    let n = len.min(text.len() - from);
+    &text[from..from + n]
 }
 
 // The bytes of a token.
 pub fn txt(text: &[u8], t: Token) -> &[u8]
-    ensures { result.now ≡ take (t.stop - t.start) (drop t.start text.now) }
+    ensures { result.now ≡ bytes_of text.now t }
 {
-    let a = t.start;
-    let e = t.stop;
-    if text.len() <= a {
-        return &text[0..0];
-    }
-    if text.len() < e {
-        return &text[a..];
-    }
-    if e < a {
-        return &text[0..0];
-    }
-    &text[a..e]
+    part(text, t.start, t.stop.saturating_sub(t.start))
 }
 
-pub fn get_name(held: Token, next: Token) -> Taken
-    ensures { (s : List ℕ) (a : Ahead ℕ Mark) → Took s held next a → as_taken s held result ≡ get_name a }
+// The word is the one that is asked for.
+fn this_word(w: u8, key: u8, held: Token) -> Result<(u8, Token), Refusal>
+    ensures { (s : List ℕ) → as_word s result ≡ cond (eqb w key) (ok w (ahead_of s held)) (complain 7 (ahead_of s held)) }
 {
-    expect(held, next, Token::NAME)
-}
-
-// The number of a key word.
-pub fn get_key(lent: &&[u8], held: Token, next: Token) -> Word
-    ensures { (a : Ahead ℕ Mark) → Took lent.now.now held next a → as_word lent.now.now result ≡ get_key a }
-{
-    let answer = get_name(held, next);
-    let Taken::Next(next) = answer else {
-        return Word::Refused(taken_refusal(answer));
-    };
-    let w = word::word_in(lent, held.start, held.stop);
-    if word::is_key(w) {
-        Word::Is(w, next)
-    } else {
-        Word::Refused(complain(5, next))
-    }
-}
-
-// This key word.
-pub fn expect_key(lent: &&[u8], held: Token, next: Token, key: u8) -> Word
-    ensures { (a : Ahead ℕ Mark) → Took lent.now.now held next a → as_word lent.now.now result ≡ expect_key key a }
-{
-    let answer = get_key(lent, held, next);
-    let Word::Is(w, next) = answer else {
-        return answer;
-    };
     if w == key {
-        Word::Is(w, next)
+        Ok((w, held))
     } else {
-        Word::Refused(complain(7, next))
+        Err(complain(7, held))
     }
 }
 
-// This word, be it a key word or not.
-pub fn expect_keyword(lent: &&[u8], held: Token, next: Token, key: u8) -> Word
-    ensures { (a : Ahead ℕ Mark) → Took lent.now.now held next a → as_word lent.now.now result ≡ expect_keyword key a }
+// A code, of which 0 is none.
+pub(crate) fn coded(code: u8, held: Token) -> Result<(u8, Token), Refusal>
+    ensures { (s : List ℕ) → as_word s result ≡ coded code (ahead_of s held) }
 {
-    let answer = get_name(held, next);
-    let Taken::Next(next) = answer else {
-        return Word::Refused(taken_refusal(answer));
-    };
-    let w = word::word_in(lent, held.start, held.stop);
-    if w == key {
-        Word::Is(key, next)
-    } else {
-        Word::Refused(complain(7, next))
-    }
-}
-
-// The name of so many bytes at a place of the text again, byte by byte.
-pub fn expect_ident(lent: &&[u8], held: Token, next: Token, title: usize, len: usize) -> Taken
-    ensures { (a : Ahead ℕ Mark) → Took lent.now.now held next a → as_taken lent.now.now held result ≡ expect_ident (name_in lent.now.now title len) a }
-{
-    let answer = get_name(held, next);
-    let Taken::Next(next) = answer else {
-        return answer;
-    };
-    let text = *lent;
-    if same_bytes(txt(text, held), name_in(text, title, len)) {
-        Taken::Next(next)
-    } else {
-        Taken::Refused(complain(7, next))
-    }
-}
-
-// The name of so many bytes at a place, as far as the text goes.
-fn name_in(text: &[u8], start: usize, len: usize) -> &[u8]
-    ensures { result.now ≡ name_in text.now start len }
-{
-    if text.len() <= start {
-        return &text[0..0];
-    }
-    if text.len() - start <= len {
-        return &text[start..];
-    }
-    let stop = start + len;
-    &text[start..stop]
-}
-
-fn same_bytes(a: &[u8], b: &[u8]) -> bool
-    ensures { result ≡ same a.now b.now }
-{
-    if a.len() != b.len() {
-        return false;
-    }
-    let mut i = 0;
-    while i < b.len() {
-        if a[i] != b[i] {
-            return false;
-        }
-        i += 1;
-    }
-    true
-}
-
-// A number, as a record stores it.
-pub fn parse_number(lent: &&[u8], held: Token, next: Token) -> Number
-    ensures { (a : Ahead ℕ Mark) → Took lent.now.now held next a → as_number lent.now.now result ≡ parse_number a }
-{
-    let answer = expect(held, next, Token::NUMBER);
-    let Taken::Next(next) = answer else {
-        return Number::Refused(taken_refusal(answer));
-    };
-    let text = *lent;
-    let value = numeral::numeral(txt(text, held));
-    let Value::Scaled(negative, m) = value else {
-        return Number::Refused(complain(9, next));
-    };
-    Number::Value(numeral::stored(negative, m), next)
-}
-
-// A value word of the kind, by its code.
-pub fn parse_enum(lent: &&[u8], held: Token, next: Token, kind: u8) -> Word
-    ensures { (a : Ahead ℕ Mark) → Took lent.now.now held next a → as_word lent.now.now result ≡ parse_enum (λ w. code_of kind w 0) a }
-{
-    let answer = get_name(held, next);
-    let Taken::Next(next) = answer else {
-        return Word::Refused(taken_refusal(answer));
-    };
-    let code = word::codes::code_of(kind, word::word_in(lent, held.start, held.stop), 0);
     if code == 0 {
-        Word::Refused(complain(6, next))
+        Err(complain(6, held))
     } else {
-        Word::Is(code, next)
+        Ok((code, held))
     }
 }
 
-// What a taker refused for.
-pub fn taken_refusal(t: Taken) -> Refusal
-    ensures { result ≡ why_taken t }
-{
-    match t {
-        Taken::Next(next) => complain(0, next),
-        Taken::Refused(r) => r,
+// The takers judge the token taken.
+impl Taken {
+    pub fn expect(self, kind: Kind) -> Result<Token, Refusal>
+        ensures { (s : List ℕ) (a : Ahead ℕ Mark) → Took s self.token self.held a → as_taken s self.token result ≡ expect (number_of kind) a }
+    {
+        if self.token.kind == kind {
+            Ok(self.held)
+        } else {
+            Err(complain(4, self.held))
+        }
     }
-}
 
-// What the others refused for.
-pub fn number_refusal(n: Number) -> Refusal
-    ensures { result ≡ why_number n }
-{
-    match n {
-        Number::Value(_, next) => complain(0, next),
-        Number::Refused(r) => r,
+    pub fn get_name(self) -> Result<Token, Refusal>
+        ensures { (s : List ℕ) (a : Ahead ℕ Mark) → Took s self.token self.held a → as_taken s self.token result ≡ get_name a }
+    {
+        self.expect(Kind::Name)
     }
-}
 
-pub fn word_refusal(w: Word) -> Refusal
-    ensures { result ≡ why_word w }
-{
-    match w {
-        Word::Is(_, next) => complain(0, next),
-        Word::Refused(r) => r,
+    // The number of the word that a name spells, or 0.
+    pub(crate) fn get_word(self, lent: &&[u8]) -> Result<(u8, Token), Refusal>
+        ensures { (a : Ahead ℕ Mark) → Took lent.now.now self.token self.held a → as_word lent.now.now result ≡ get_word a }
+    {
+        let held = self.get_name()?;
+        Ok((word::word_in(lent, self.token.start, self.token.stop), held))
+    }
+
+    // The number of a key word.
+    pub fn get_key(self, lent: &&[u8]) -> Result<(u8, Token), Refusal>
+        ensures { (a : Ahead ℕ Mark) → Took lent.now.now self.token self.held a → as_word lent.now.now result ≡ get_key a }
+    {
+        let (w, held) = self.get_word(lent)?;
+        if word::is_key(w) {
+            Ok((w, held))
+        } else {
+            Err(complain(5, held))
+        }
+    }
+
+    // This key word.
+    pub fn expect_key(self, lent: &&[u8], key: u8) -> Result<(u8, Token), Refusal>
+        ensures { (a : Ahead ℕ Mark) → Took lent.now.now self.token self.held a → as_word lent.now.now result ≡ expect_key key a }
+    {
+        let (w, held) = self.get_key(lent)?;
+        this_word(w, key, held)
+    }
+
+    // This word, be it a key word or not.
+    pub fn expect_keyword(self, lent: &&[u8], key: u8) -> Result<(u8, Token), Refusal>
+        ensures { (a : Ahead ℕ Mark) → Took lent.now.now self.token self.held a → as_word lent.now.now result ≡ expect_keyword key a }
+    {
+        let (w, held) = self.get_word(lent)?;
+        this_word(w, key, held)
+    }
+
+    // The name of so many bytes at a place of the text again, byte by byte.
+    pub fn expect_ident(self, lent: &&[u8], title: usize, len: usize) -> Result<Token, Refusal>
+        ensures { (a : Ahead ℕ Mark) → Took lent.now.now self.token self.held a → as_taken lent.now.now self.token result ≡ expect_ident (name_in lent.now.now title len) a }
+    {
+        let held = self.get_name()?;
+        let text = *lent;
+        if txt(text, self.token) == part(text, title, len) {
+            Ok(held)
+        } else {
+            Err(complain(7, held))
+        }
+    }
+
+    // A number, as a record stores it.
+    pub fn parse_number(self, lent: &&[u8]) -> Result<(u64, Token), Refusal>
+        ensures { (a : Ahead ℕ Mark) → Took lent.now.now self.token self.held a → as_number lent.now.now result ≡ parse_number a }
+    {
+        let held = self.expect(Kind::Number)?;
+        let Some(value) = numeral::numeral(txt(*lent, self.token)) else {
+            return Err(complain(9, held));
+        };
+        Ok((numeral::stored(value), held))
+    }
+
+    // A value word of the kind, by its code.
+    pub fn parse_enum(self, lent: &&[u8], kind: u8) -> Result<(u8, Token), Refusal>
+        ensures { (a : Ahead ℕ Mark) → Took lent.now.now self.token self.held a → as_word lent.now.now result ≡ parse_enum (λ w. code_of kind w 0) a }
+    {
+        let (w, held) = self.get_word(lent)?;
+        coded(word::codes::code_of(kind, w, 0), held)
     }
 }

@@ -6,8 +6,9 @@ use native.Mathlib.Omega.{arith}
 use borrow.Author.Tests.{le-leb, lt-leb, lt-ltb, ne_eqb}
 use lib.ListN.{length, drop}
 use lib.Seq.{sets, length-sets}
+use Rattle.std.specs.Prelude.{Result, Ok, Err}
 use Rattle.refusal.specs.declared.Refusal.{Refusal}
-use Rattle.refusal.specs.Table.{no_token, done, record_room}
+use Rattle.refusal.specs.Table.{no_token, done, record_room, outcome}
 use Rattle.refusal.specs.Table.{refused as refusal}
 use Rattle.rowfile.specs.Rows.{joined}
 use Rattle.rowfile.proofs.Stored.{sets_append, sets_front}
@@ -20,26 +21,24 @@ use Rattle.record.proofs.Laws.{encoded_length}
 use Rattle.lexer.specs.declared.Token.{Token}
 use Rattle.lexer.specs.declared.Lexed.{Lexed}
 use Rattle.lexer.specs.declared.Lexed.TheVariants.{Found, End, Bad}
-use Rattle.lexer.specs.declared.Screened.{Screened}
-use Rattle.lexer.specs.declared.Screened.TheVariants.{Clear, Refused}
+use Rattle.lexer.specs.Kinds.{number_of}
 use Rattle.lexer.specs.Lex.{from, rest, lex_from}
 use Rattle.lexer.specs.Screen.{limit, screened}
 use Rattle.lexer.proofs.Cleared.{clear_short}
 use Rattle.lexer.proofs.Whole.{unrolls}
 use Rattle.lexer.proofs.Kinded.{kinded}
 use Rattle.reader.specs.declared.open.State.{State}
-use Rattle.parser.specs.declared.take.Taken.{Taken}
-use Rattle.parser.specs.declared.take.Taken.TheVariants as T
-use Rattle.reader.specs.declared.pass.Begun.TheVariants as B
+use Rattle.reader.specs.declared.pass.Stuck.{Stuck}
 use Rattle.reader.specs.declared.pass.Passed.{Passed}
 use Rattle.reader.specs.declared.pass.Passed.TheVariants as P
 use Rattle.grammar.specs.Reading.{tok, ahead, start, read_ahead, Reading, records, refusal_of, told, reading}
 use Rattle.parser.specs.Code.{rest_of, ahead_of, end_of, held_next}
 use Rattle.reader.specs.Open.{state_of, Ranked}
 use Rattle.reader.specs.Answered.{room, answered, filled}
-use Rattle.reader.specs.Passed.{read_from, stored_all, Begins, Further, Passes}
+use Rattle.reader.specs.Passed.{read_from, stored_all, Begins, Passes}
 use Rattle.parser.proofs.Ahead.{end_bytes}
 use Rattle.grammar.proofs.Falls.{read_on}
+use Rattle.grammar.proofs.Refusals.{refusal_number}
 use Rattle.reader.proofs.Tally.{few_ahead}
 
 -- THE RECORDS IN THE FILE
@@ -62,8 +61,8 @@ fronted rs file h = laid_all rs 0 file (omega arith) ∙ sets_front (encoded_all
 -- THE ANSWER
 
 -- what `read` answers for a reading, and the buffer as it leaves it
-abbrev pub Handed : List ℕ → Reading → Refusal → List ℕ → Type 0
-Handed file o r exit = (r ≡ answered (room file) o) × (exit ≡ filled file o)
+abbrev pub Handed : List ℕ → Reading → Result ℕ Refusal → List ℕ → Type 0
+Handed file o r exit = (r ≡ outcome (answered (room file) o)) × (exit ≡ filled file o)
 
 clash : (rs : List Record) (f : Refusal) → records rs ≡ refusal_of f → ⊥
 clash rs f e = let z : ◌≡◌ {A = ℕ} 0 1 = cc in omega arith
@@ -71,43 +70,46 @@ clash rs f e = let z : ◌≡◌ {A = ℕ} 0 1 = cc in omega arith
 same_records : (rs qs : List Record) → records rs ≡ records qs → rs ≡ qs
 same_records rs qs e = cc
 
-pub by_refusal : {o : Reading} (file : List ℕ) (f : Refusal) → o ≡ refusal_of f → Handed file o f file
-by_refusal file f e = (rw e, rw e)
+-- a refusal of a text has a number
+pub by_refusal : (s file : List ℕ) (f : Refusal) → reading s ≡ refusal_of f → Handed file (reading s) (Err f) file
+by_refusal s file f e = (rw e (rw (ne_eqb f.number done (omega (arith, refusal_number s f.number f.place f.line e)))), rw e)
 
 -- WHAT A PASS OVER ALL TURNS SHOWS
 
 abbrev all : ℕ
 all = 18446744073709551615
 
-module _ (s : List ℕ) (l : length s ≤ limit) (st : State) where
+module _ (s : List ℕ) (l : length s ≤ limit) (st : State) (b : reading s ≡ read_from s st) where
   -- there are fewer tokens than that
-  pub never_on : (file out : List ℕ) (to : State) → Further s st file all to out → ⊥
+  pub never_on : (file out : List ℕ) (to : State) → Passes s st all file out (Ok (P.On to)) → ⊥
   never_on file out to f = omega (arith, f.fewer, few_ahead s st.held, l)
 
-  stored_by : (file out : List ℕ) (x : Passed) → Passes s st all file out x → (rs : List Record) → read_from s st ≡ records rs → out ≡ stored_all 0 rs file
-  stored_by file out (P.Over n) p rs e = p.4 ∙ ap (λ q. stored_all 0 q file) (same_records p.0 rs (sym p.1 ∙ e))
-  stored_by file out (P.On to) p rs e = absurd (never_on file out to p)
-  stored_by file out (P.Refused r to) p rs e = absurd (clash rs r (sym e ∙ p.0))
+  stored_by : (file out : List ℕ) (x : Result Passed Stuck) → Passes s st all file out x → (rs : List Record) → reading s ≡ records rs → out ≡ stored_all 0 rs file
+  stored_by file out (Ok (P.Over n)) p rs e = p.4 ∙ ap (λ q. stored_all 0 q file) (same_records p.0 rs (sym p.1 ∙ (sym b ∙ e)))
+  stored_by file out (Ok (P.On to)) p rs e = absurd (never_on file out to p)
+  stored_by file out (Err f) p rs e = absurd (clash rs f.refusal (sym e ∙ (b ∙ p.0)))
 
-  -- the first pass counted n
-  module _ (file : List ℕ) (x : Passed) (nowhere out : List ℕ) (p : Passes s st all nowhere out x) where
-    pub by_stop : (f : Refusal) (to : State) → x ≡ P.Refused f to → Handed file (read_from s st) f file
-    by_stop f to h = let o : Passes s st all nowhere out (P.Refused f to) = rw h at p in by_refusal file f o.0
+  module _ (file : List ℕ) where
+    pub by_stop : (nowhere out : List ℕ) (f : Stuck) → Passes s st all nowhere out (Err f) → Handed file (reading s) (Err f.refusal) file
+    by_stop nowhere out f p = by_refusal s file f.refusal (b ∙ p.0)
 
-    pub by_on : (to : State) → x ≡ P.On to → ⊥
-    by_on to h = never_on nowhere out to (rw h at p)
+    -- the first pass counted n
+    module _ (nowhere out : List ℕ) (n : ℕ) (o : Passes s st all nowhere out (Ok (P.Over n))) where
+      pub by_room : room file < n → Handed file (reading s) (Err (refusal record_room n 0)) file
+      by_room k =
+          let c = lt-leb (length o.0) (room file) (omega (arith, o.2)) in
+          let e : reading s ≡ records o.0 = b ∙ o.1 in
+          rw e (rw (c, o.2), rw c)
 
-    pub by_room : (n : ℕ) → x ≡ P.Over n → room file < n → Handed file (read_from s st) (refusal record_room n 0) file
-    by_room n h k =
-        let o : Passes s st all nowhere out (P.Over n) = rw h at p in
-        let b = lt-leb (length o.0) (room file) (omega (arith, o.2)) in
-        rw o.1 (rw (b, o.2), rw b)
+      pub by_filling : n ≤ room file → (exit : List ℕ) (y : Result Passed Stuck) → Passes s st all file exit y → Handed file (reading s) (Ok n) exit
+      by_filling k exit y q =
+          let c = le-leb (length o.0) (room file) (omega (arith, o.2)) in
+          let e : reading s ≡ records o.0 = b ∙ o.1 in
+          rw e (rw (c, o.2), rw c (stored_by file exit y q o.0 e ∙ fronted o.0 file (omega (arith, o.2))))
 
-    pub by_filling : (n : ℕ) → x ≡ P.Over n → n ≤ room file → (exit : List ℕ) (y : Passed) → Passes s st all file exit y → Handed file (read_from s st) (refusal done n 0) exit
-    by_filling n h k exit y q =
-        let o : Passes s st all nowhere out (P.Over n) = rw h at p in
-        let b = le-leb (length o.0) (room file) (omega (arith, o.2)) in
-        rw o.1 (rw (b, o.2), rw b (stored_by file exit y q o.0 o.1 ∙ fronted o.0 file (omega (arith, o.2))))
+      -- and no second pass is refused
+      pub never_stopped : (exit : List ℕ) (f : Stuck) → Passes s st all file exit (Err f) → ⊥
+      never_stopped exit f q = clash o.0 f.refusal (sym o.1 ∙ q.0)
 
 -- THE START
 
@@ -116,45 +118,45 @@ module _ (s : List ℕ) where
   abbrev clear : Reading
   clear = told (read_ahead (ahead s (from s 0 1)))
 
-  pub screens : (r : Refusal) → Refused r ≡ screened s → reading s ≡ refusal_of r
+  pub screens : (r : Refusal) → Err r ≡ screened s → reading s ≡ refusal_of r
   unfolding reading
   screens r e = rw (← e, reading)
 
-  cleared : Clear ≡ screened s → reading s ≡ clear
+  cleared : Ok tt ≡ screened s → reading s ≡ clear
   unfolding reading
   cleared e = rw (← e, reading)
 
   opening : (r : Lexed) → r ≡ lex_from s 0 1 → clear ≡ told (read_ahead (record { held = tok s r; rest = map (tok s) (rest s r) }))
   opening r q = let z : from s 0 1 ≡ r ∷ rest s r = rw q (unrolls s 0 1) in rw z
 
-  found : (r : Lexed) → r ≡ lex_from s 0 1 → (t : Token) → T.Next t ≡ held_next s r → clear ≡ told (read_on start (ahead_of s t))
+  found : (r : Lexed) → r ≡ lex_from s 0 1 → (t : Token) → Ok t ≡ held_next s r → clear ≡ told (read_on start (ahead_of s t))
   unfolding read_ahead rest_of
   found (Found u) q t e =
-      let k : (1 ≤ u.kind) × (u.kind ≤ 4) = rw (← q) at (kinded s 0 1) in
+      let k : (1 ≤ number_of u.kind) × (number_of u.kind ≤ 4) = rw (← q) at (kinded s 0 1) in
       let z : t ≡ u = cc in
-      rw z (opening (Found u) q ∙ rw (ne_eqb u.kind 5 (omega arith), ne_eqb u.kind 0 (omega arith)))
+      rw z (opening (Found u) q ∙ rw (ne_eqb (number_of u.kind) 5 (omega arith), ne_eqb (number_of u.kind) 0 (omega arith)))
   found (End n) q t e =
       let z : t ≡ end_of s n = cc in
       rw z (opening (End n) q ∙ rw (end_bytes s))
-  found (Bad i n) q t e = absurd (let z : ◌≡◌ {A = ℕ} 0 1 = cc in let w : ⊥ = omega arith in w)
+  found (Bad i n) q t e = cc
 
-  lost : (r : Lexed) → r ≡ lex_from s 0 1 → (f : Refusal) → T.Refused f ≡ held_next s r → clear ≡ refusal_of f
+  lost : (r : Lexed) → r ≡ lex_from s 0 1 → (f : Refusal) → Err f ≡ held_next s r → clear ≡ refusal_of f
   unfolding read_ahead
-  lost (Found u) q f e = absurd (let z : ◌≡◌ {A = ℕ} 0 1 = cc in let w : ⊥ = omega arith in w)
-  lost (End n) q f e = absurd (let z : ◌≡◌ {A = ℕ} 0 1 = cc in let w : ⊥ = omega arith in w)
+  lost (Found u) q f e = cc
+  lost (End n) q f e = cc
   lost (Bad i n) q f e =
       let z : f ≡ refusal no_token i n = cc in
       rw z (opening (Bad i n) q)
 
   -- a clear text is read from its first token on, or is refused for its first byte
-  module _ (x : Screened) (v : x ≡ screened s) (c : x ≡ Clear) (y : Taken) (q : y ≡ held_next s (lex_from s 0 1)) where
-    pub begins : (t : Token) → y ≡ T.Next t → (o : State) → (o.held ≡ t) × ((l : List ℕ) → state_of l o ≡ start) → Begins s (B.At o)
+  module _ (v : Ok tt ≡ screened s) where
+    pub begins : (t : Token) → Ok t ≡ held_next s (lex_from s 0 1) → (o : State) → (o.held ≡ t) × ((l : List ℕ) → state_of l o ≡ start) → Begins s (Ok o)
     begins t e o h = (
-      cleared (sym c ∙ v) ∙ (found (lex_from s 0 1) refl t (sym e ∙ q) ∙ rw (← h.0, ← h.1 s)),
-      clear_short s (sym v ∙ c),
+      cleared v ∙ (found (lex_from s 0 1) refl t e ∙ rw (← h.0, ← h.1 s)),
+      clear_short s (sym v),
       h.1 s,
       subst (λ st. Ranked st.blocks) (sym (h.1 s)) (omega arith, tt),
     )
 
-    pub fails : (f : Refusal) → y ≡ T.Refused f → reading s ≡ refusal_of f
-    fails f e = cleared (sym c ∙ v) ∙ lost (lex_from s 0 1) refl f (sym e ∙ q)
+    pub fails : (f : Refusal) → Err f ≡ held_next s (lex_from s 0 1) → reading s ≡ refusal_of f
+    fails f e = cleared v ∙ lost (lex_from s 0 1) refl f e

@@ -6,11 +6,13 @@ use mathlib.Core.List.{List, [], ◌∷◌, ◌++◌, map, append_assoc, append-
 use native.Mathlib.Omega.{arith}
 use lib.Dec.{eqb}
 use lib.ListN.{length, length-map, length-append}
+use Rattle.std.specs.Prelude.{Ok, Err}
 use Rattle.refusal.specs.declared.Refusal.{Refusal}
 use Rattle.refusal.specs.Table.{refused as refusal}
 use Rattle.record.specs.declared.Record.{Record}
 use Rattle.file.specs.File.{stored}
 use Rattle.lexer.specs.declared.Token.{Token}
+use Rattle.lexer.specs.Kinds.{number_of}
 use Rattle.lexer.specs.Lex.{from}
 use Rattle.lexer.proofs.Whole.{few}
 use Rattle.reader.specs.declared.open.State.{State}
@@ -30,7 +32,7 @@ use Rattle.grammar.proofs.Falls.{Less, turn_less, read_on, after, unrolls}
 -- there are at most as many tokens ahead as bytes, and one more
 pub few_ahead : (s : List ℕ) (t : Token) → length (rest_of s t) ≤ suc (length s)
 unfolding rest_of
-few_ahead s t = go (eqb t.kind end)
+few_ahead s t = go (eqb (number_of t.kind) end)
   where
     go : (b : Bool) → length (cond b [] (map (tok s) (from s t.stop t.line))) ≤ suc (length s)
     go true = omega arith
@@ -172,8 +174,8 @@ module _ (s : List ℕ) (st : State) (file : List ℕ) where
           sound = m.sound;
         }
 
-    pub over : (most : ℕ) → n ≤ most → read_from s at ≡ records [] → Passes s st most file now (P.Over n)
+    pub over : (most : ℕ) → n ≤ most → read_from s at ≡ records [] → Passes s st most file now (Ok (P.Over n))
     over most h e = (f.given ++ [], f.rest ∙ ap (follow f.given) e, ap length (append-nil f.given) ∙ f.count, h, f.laid ∙ ap (λ l. stored_all 0 l file) (sym (append-nil f.given)))
 
-    pub refused : (most : ℕ) (r : Refusal) → turn_at s at ≡ T.halted r.number (record { place = r.place; line = r.line }) → Passes s st most file now (P.Refused r at)
+    pub refused : (most : ℕ) (r : Refusal) → turn_at s at ≡ T.halted r.number (record { place = r.place; line = r.line }) → Passes s st most file now (Err (record { refusal = r; state = at }))
     refused most r q = let e = halts_by s at r q in (f.rest ∙ ap (follow f.given) e, record { count = n; further = f; halts = q; reads = e })

@@ -1,12 +1,14 @@
 -- A turn of the code is a turn of the definition: by the cases of the step, and since a block that has ended leaves those around it.
 use Prim.Native.Nat.{ℕ, ◌≤◌, ◌<◌}
-use mathlib.Core.Path.{◌≡◌, refl, sym, ap, subst, ◌∙◌}
+use mathlib.Core.Path.{◌≡◌, refl, sym, ap, ◌∙◌}
 use mathlib.Core.List.{List, [], ◌∷◌}
 use native.Mathlib.Omega.{arith}
 use lib.ListN.{length}
+use Rattle.std.specs.Prelude.{Result, Ok, Err}
 use Rattle.lexer.specs.declared.Token.{Token}
 use Rattle.record.specs.declared.Record.{Record}
 use Rattle.refusal.specs.declared.Refusal.{Refusal}
+use Rattle.parser.specs.declared.open.Frame.{Frame as Opened}
 use Rattle.reader.specs.declared.open.Open.{Open}
 use Rattle.reader.specs.declared.open.State.{State}
 use Rattle.parser.specs.declared.engine.Step.{Step}
@@ -23,10 +25,10 @@ use Rattle.parser.specs.Code.{ahead_of}
 use Rattle.parser.specs.Kept.{name_in, frame_of}
 use Rattle.parser.specs.Drafts.{Entry}
 use Rattle.parser.specs.Stepped.{labelled, filed_step, as_step, step_in}
-use Rattle.reader.specs.Open.{frames_in, numbers_of, around_in, blocks_of, state_of, rank, Ranked}
+use Rattle.reader.specs.Open.{frames_in, rank}
 use Rattle.reader.specs.Stepped.{filed_turn, applied_in, turn_in}
 use Rattle.reader.specs.Passed.{Sound}
-use Rattle.reader.proofs.Stack.{frames_length, again}
+use Rattle.reader.proofs.Stack.{frames_length}
 use Rattle.reader.proofs.Ranks.{Rises, step_rises, rank_most}
 
 -- A STEP AND THE TURN
@@ -75,36 +77,17 @@ turn_none s v (f ∷ fs) t h = absurd (let z : ⊥ = omega (arith, h) in z)
 
 -- THE CODE'S STATE
 
--- the state of the loop, with the blocks around the innermost in an array
-abbrev pub now : Token → Open → List ℕ → State
-now t p o = record { held = t; «open» = p; outer = around_in o }
+-- the state of the loop
+abbrev pub now : Token → Open → List Opened → State
+now t p o = record { held = t; «open» = p; outer = o }
 
--- no block of the loop's stands deeper than it can
-abbrev pub Stands : List ℕ → Open → List ℕ → Type 0
-Stands s p o = Ranked (blocks_of s p o).blocks
-
-module _ (s : List ℕ) (t : Token) (p : Open) (o : List ℕ) where
-  shallow : (q : List ℕ) → Stands s p q → p.depth ≤ 5
-  shallow q h = omega (arith, h.0, rank_most (block_of p.inner.block), frames_length s p.depth q)
-
-  pub now_as : p.depth ≤ 5 → state_of s (now t p o) ≡ blocks_of s p o
-  now_as h = ap (λ fs. state p.version (frame_of s p.inner ∷ fs)) (again s p.depth o h)
-
+module _ (s : List ℕ) (t : Token) (p : Open) (o : List Opened) where
   pub sound_depth : Sound s (now t p o) → p.depth ≤ 5
-  sound_depth h = shallow (numbers_of (around_in o)) h
-
-  pub sound_stands : Sound s (now t p o) → Stands s p o
-  sound_stands h = subst (λ st. Ranked st.blocks) (now_as (sound_depth h)) h
-
-  pub stands_depth : Stands s p o → p.depth ≤ 5
-  stands_depth h = shallow o h
-
-  pub stands_sound : Stands s p o → Sound s (now t p o)
-  stands_sound h = subst (λ st. Ranked st.blocks) (sym (now_as (stands_depth h))) h
+  sound_depth h = omega (arith, h.0, rank_most (block_of p.inner.block), frames_length s p.depth o)
 
 -- A TURN OF THE CODE
 
-module _ (s : List ℕ) (t : Token) (p : Open) (o : List ℕ) where
+module _ (s : List ℕ) (t : Token) (p : Open) (o : List Opened) where
   abbrev v : ℕ
   v = p.version
 
@@ -115,14 +98,14 @@ module _ (s : List ℕ) (t : Token) (p : Open) (o : List ℕ) where
   frames = frames_in s p.depth o
 
   -- the step that the innermost block makes
-  abbrev pub Makes : Step → Type 0
+  abbrev pub Makes : Result Step Refusal → Type 0
   Makes e = as_step s e ≡ step_in s v frame t (body (block_of p.inner.block))
 
   -- the turn in the open blocks
   abbrev pub turn_of : T.Turn ℕ Mark Record
   turn_of = turn_in s v (frame ∷ frames) t
 
-  pub made_rises : (e : Step) → Makes e → Rises (rank (block_of p.inner.block)) (as_step s e)
+  pub made_rises : (e : Result Step Refusal) → Makes e → Rises (rank (block_of p.inner.block)) (as_step s e)
   made_rises e h = let b = block_of p.inner.block in
       rw h (rises_filed (rank b) (step v frame (ahead_of s t) (body b)) (step_rises v frame (ahead_of s t) b))
 
@@ -133,26 +116,26 @@ module _ (s : List ℕ) (t : Token) (p : Open) (o : List ℕ) where
       applied_filed v frame frames (turn body v frames (ahead_of s t)) (step v frame (ahead_of s t) (body frame.block))
       ∙ ap (applied_in v frame frames (turn_in s v frames t)) (sym h)
 
-  pub gives_turn : (u : Token) (r : Record) (m : ℕ) → Makes (S.Gives u r m)
+  pub gives_turn : (u : Token) (r : Record) (m : ℕ) → Makes (Ok (S.Gives u r m))
       → turn_of ≡ T.emit r (shift (move_of m) r.kind r.at (name_in s r.name r.len) r.x v frame frames) (ahead_of s u)
-  gives_turn u r m h = turn_of_lem (as_step s (S.Gives u r m)) h
+  gives_turn u r m h = turn_of_lem (as_step s (Ok (S.Gives u r m))) h
       ∙ ap (λ st. T.emit r st (ahead_of s u)) (shift_labelled (move_of m) r.kind r.at (name_in s r.name r.len) r.x v frame frames)
 
-  pub ends_turn : (u : Token) → Makes (S.Ends u) → 0 < p.depth → turn_of ≡ T.moved (state v frames) (ahead_of s u)
-  ends_turn u h d = turn_of_lem (as_step s (S.Ends u)) h ∙ leave_some v frames (ahead_of s u) (omega (arith, d, frames_length s p.depth o))
+  pub ends_turn : (u : Token) → Makes (Ok (S.Ends u)) → 0 < p.depth → turn_of ≡ T.moved (state v frames) (ahead_of s u)
+  ends_turn u h d = turn_of_lem (as_step s (Ok (S.Ends u))) h ∙ leave_some v frames (ahead_of s u) (omega (arith, d, frames_length s p.depth o))
 
-  pub last_turn : (u : Token) → Makes (S.Ends u) → p.depth ≡ 0 → turn_of ≡ T.done
-  last_turn u h d = turn_of_lem (as_step s (S.Ends u)) h ∙ leave_none v frames (ahead_of s u) (frames_length s p.depth o ∙ d)
+  pub last_turn : (u : Token) → Makes (Ok (S.Ends u)) → p.depth ≡ 0 → turn_of ≡ T.done
+  last_turn u h d = turn_of_lem (as_step s (Ok (S.Ends u))) h ∙ leave_none v frames (ahead_of s u) (frames_length s p.depth o ∙ d)
 
-  pub goes_turn : (u : Token) (b : ℕ) → Makes (S.Goes u b) → turn_of ≡ T.moved (state v (become (block_of b) frame ∷ frames)) (ahead_of s u)
-  goes_turn u b h = turn_of_lem (as_step s (S.Goes u b)) h
+  pub goes_turn : (u : Token) (b : ℕ) → Makes (Ok (S.Goes u b)) → turn_of ≡ T.moved (state v (become (block_of b) frame ∷ frames)) (ahead_of s u)
+  goes_turn u b h = turn_of_lem (as_step s (Ok (S.Goes u b))) h
 
   -- where a block has ended, the turn is that of the blocks around it
-  pub back_turn : Makes S.Back → turn_of ≡ turn_in s v frames t
-  back_turn h = turn_of_lem (as_step s S.Back) h
+  pub back_turn : Makes (Ok S.Back) → turn_of ≡ turn_in s v frames t
+  back_turn h = turn_of_lem (as_step s (Ok S.Back)) h
 
-  pub back_last : Makes S.Back → p.depth ≡ 0 → turn_of ≡ T.done
+  pub back_last : Makes (Ok S.Back) → p.depth ≡ 0 → turn_of ≡ T.done
   back_last h d = back_turn h ∙ turn_none s v frames t (frames_length s p.depth o ∙ d)
 
-  pub refused_turn : (r : Refusal) → Makes (S.Refused r) → turn_of ≡ T.halted r.number (record { place = r.place; line = r.line })
-  refused_turn r h = turn_of_lem (as_step s (S.Refused r)) h
+  pub refused_turn : (r : Refusal) → Makes (Err r) → turn_of ≡ T.halted r.number (record { place = r.place; line = r.line })
+  refused_turn r h = turn_of_lem (as_step s (Err r)) h

@@ -1,12 +1,11 @@
 -- Inner machinery, which nobody has to believe: what a pass over the turns does, the reading from a state on and the records stored on the way.
 -- `Begins` and `Passes` settle the counts, the refusals and the file. Of a state that they answer they say only what is read from it on.
-use Rattle.std.specs.Prelude.{ℕ, suc, ◌+◌, ◌≤◌, ◌≡◌, List, [], ◌∷◌, ◌++◌, length}
+use Rattle.std.specs.Prelude.{ℕ, suc, ◌+◌, ◌≤◌, ◌≡◌, List, [], ◌∷◌, ◌++◌, length, Result, Ok, Err}
 use Rattle.record.specs.declared.Record.{Record}
 use Rattle.file.specs.File.{stored}
 use Rattle.lexer.specs.Screen.{limit}
 use Rattle.reader.specs.declared.open.State.{State}
-use Rattle.reader.specs.declared.pass.Begun.{Begun}
-use Rattle.reader.specs.declared.pass.Begun.TheVariants as B
+use Rattle.reader.specs.declared.pass.Stuck.{Stuck as Stopped}
 use Rattle.reader.specs.declared.pass.Passed.{Passed}
 use Rattle.reader.specs.declared.pass.Passed.TheVariants as P
 use Rattle.grammar.specs.Table.{body}
@@ -36,9 +35,9 @@ stored_all n [] file = file
 stored_all n (r ∷ rs) file = stored_all (n + 1) rs (stored r n file)
 
 -- a text within its limit is read from the state on, which is the first, or is refused
-abbrev pub Begins : List ℕ → Begun → Type 0
-Begins s (B.At st) = (reading s ≡ read_from s st) × (length s ≤ limit) × (state_of s st ≡ start) × Sound s st
-Begins s (B.Refused r) = reading s ≡ refusal_of r
+abbrev pub Begins : List ℕ → Result State Refusal → Type 0
+Begins s (Ok st) = (reading s ≡ read_from s st) × (length s ≤ limit) × (state_of s st ≡ start) × Sound s st
+Begins s (Err r) = reading s ≡ refusal_of r
 
 -- n records further: from a state and a file to a state and a file, with fewer tokens ahead
 pub record Further (s : List ℕ) (st : State) (file : List ℕ) (n : ℕ) (to : State) (out : List ℕ) : Type 0 where
@@ -57,7 +56,7 @@ pub record Stuck (s : List ℕ) (st : State) (file : List ℕ) (r : Refusal) (to
   pub reads : read_from s to ≡ refusal_of r
 
 -- what `pass` answers, and the file as it leaves it
-abbrev pub Passes : List ℕ → State → ℕ → List ℕ → List ℕ → Passed → Type 0
-Passes s st most file out (P.Over n) = (rs : List Record) × (read_from s st ≡ records rs) × (length rs ≡ n) × (n ≤ most) × (out ≡ stored_all 0 rs file)
-Passes s st most file out (P.On to) = Further s st file most to out
-Passes s st most file out (P.Refused r to) = (read_from s st ≡ refusal_of r) × Stuck s st file r to out
+abbrev pub Passes : List ℕ → State → ℕ → List ℕ → List ℕ → Result Passed Stopped → Type 0
+Passes s st most file out (Ok (P.Over n)) = (rs : List Record) × (read_from s st ≡ records rs) × (length rs ≡ n) × (n ≤ most) × (out ≡ stored_all 0 rs file)
+Passes s st most file out (Ok (P.On to)) = Further s st file most to out
+Passes s st most file out (Err e) = (read_from s st ≡ refusal_of e.refusal) × Stuck s st file e.refusal e.state out

@@ -1,5 +1,5 @@
 -- The refusals by number, with the place and the line that each gives. Line, for 3 to 10, is a line of the text; else 0.
-use Rattle.std.specs.Prelude.{ℕ}
+use Rattle.std.specs.Prelude.{ℕ, cond, eqb, Result, Ok, Err, ⊤}
 use Rattle.refusal.specs.declared.Refusal.{Refusal}
 
 -- done; place: the count of rows or bytes that are written
@@ -72,3 +72,11 @@ index_differs = 16
 
 abbrev pub refused : ℕ → ℕ → ℕ → Refusal
 refused number place line = record { number = number; place = place; line = line }
+
+-- what a call hands out of what comes back: `done` is `Ok` with its place, which is the count, and any other number is the error
+abbrev pub outcome : Refusal → Result ℕ Refusal
+outcome r = cond (eqb r.number done) (Ok r.place) (Err r)
+
+-- the same of a call that writes nothing, whose place is 0 where it is done
+abbrev pub judgement : Refusal → Result ⊤ Refusal
+judgement r = cond (eqb r.number done) (Ok tt) (Err r)

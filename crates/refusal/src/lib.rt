@@ -5,7 +5,8 @@
 ghost use Rattle.std.specs.Prelude.{◌≡◌};
 ghost use Rattle.refusal.specs.Table.{refused, done, too_long, not_ascii, no_token, wrong_kind, not_key, not_allowed, another_word, not_supported, not_numeral, site_lacks, record_room, text_room, not_whole, wrong_record, lacking, index_differs};
 
-// The number has a whole word, so that a token and a refusal lie alike in an answer that is the one or the other.
+// A number and no enum: the steps of the grammar are proved for the numbers of all rows, also for one that no case has, and C is told it.
+// It has a whole word, so that a token and a refusal lie alike in an answer that is the one or the other.
 #[derive(Clone, Copy)]
 pub struct Refusal {
     pub number: usize,

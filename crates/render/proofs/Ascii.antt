@@ -7,7 +7,7 @@ use native.Mathlib.Nat.{zero-add}
 use native.Mathlib.Omega.{arith}
 use borrow.Author.Tests.{le-ltb, le-leb}
 use lib.ListN.{length, get_or, replicate}
-use Rattle.lexer.specs.declared.Screened.TheVariants.{Clear}
+use Rattle.std.specs.Prelude.{Ok}
 use Rattle.lexer.specs.Bytes.{is_ascii}
 use Rattle.lexer.specs.Run.{run}
 use Rattle.lexer.specs.Screen.{limit, screened}
@@ -37,13 +37,13 @@ ascii_text (token t ∷ ps) z =
     all_append is_ascii t.bytes (text ps) (spelt_ascii t x) (ascii_text ps y)
 
 -- a text with no byte above 127 that is not too long passes
-ascii_clear : (s : List ℕ) → all is_ascii s ≡ true → length s ≤ limit → screened s ≡ Clear
+ascii_clear : (s : List ℕ) → all is_ascii s ≡ true → length s ≤ limit → screened s ≡ Ok tt
 unfolding screened run
 ascii_clear s a h =
     let e : run is_ascii s ≡ length s = rw append-nil at (run_over is_ascii s [] a) ∙ omega arith in
     rw (e, zero-add, le-ltb limit (length s) h, le-ltb (length s) (length s) (omega arith))
 
-pub clear : (ps : List Piece) → all_spelt (tokens ps) ≡ true → length (text ps) ≤ limit → screened (text ps) ≡ Clear
+pub clear : (ps : List Piece) → all_spelt (tokens ps) ≡ true → length (text ps) ≤ limit → screened (text ps) ≡ Ok tt
 clear ps z h = ascii_clear (text ps) (ascii_text ps z) h
 
 -- and no byte of a text that passes is above 127
@@ -52,5 +52,5 @@ unfolding all
 each_low [] f = refl
 each_low (b ∷ s) f = rw (le-leb b 127 (f 0 (omega arith))) (each_low s (λ k h. f (suc k) (omega arith)))
 
-pub clear_ascii : (s : List ℕ) → screened s ≡ Clear → all is_ascii s ≡ true
+pub clear_ascii : (s : List ℕ) → screened s ≡ Ok tt → all is_ascii s ≡ true
 clear_ascii s h = each_low s (Cleared.clear_ascii s h)

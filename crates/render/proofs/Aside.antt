@@ -5,7 +5,7 @@ use mathlib.Core.List.{List, [], ◌∷◌, ◌++◌, map, map-map}
 use native.Mathlib.Omega.{arith}
 use lib.ListN.{length, length-append, get_or-append}
 use lib.Seq.{append_snoc, get_or-append_seam}
-use Rattle.lexer.specs.declared.Screened.{Screened}
+use Rattle.std.specs.Prelude.{Ok}
 use Rattle.lexer.specs.Lex.{from}
 use Rattle.lexer.specs.Screen.{screened}
 use Rattle.grammar.specs.Engine.{Maybe, none, some, Rec}
@@ -46,7 +46,7 @@ module _ (ps : List ℕ) (h : Rising ps) where
       (ap (λ m. r ∷ m) (all_aside (seen ++ (q.at ∷ [])) rs qs (e ∙ sym (append_snoc seen q.at ls)) a))
 
 -- RECORDS ALIKE ARE THE SAME, POSITIONS ASIDE
-pub aside_alike : (s : List ℕ) (ps : List Plain) (qs : List (Rec ℕ)) → screened s ≡ Screened.Clear → read_ahead (ahead s (from s 0 1)) ≡ read qs
+pub aside_alike : (s : List ℕ) (ps : List Plain) (qs : List (Rec ℕ)) → screened s ≡ Ok tt → read_ahead (ahead s (from s 0 1)) ≡ read qs
     → Alike [] ps qs → aside s (map filed qs) ≡ ps
 unfolding aside
 aside_alike s ps qs c t a =

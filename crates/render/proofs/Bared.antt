@@ -15,7 +15,8 @@ use Rattle.record.specs.declared.Record.{Record}
 use Rattle.record.specs.Made.{library}
 use Rattle.lexer.specs.declared.Lexed.{Lexed}
 use Rattle.lexer.specs.declared.Lexed.TheVariants.{Found, End, Bad}
-use Rattle.lexer.specs.declared.Screened.{Screened}
+use Rattle.std.specs.Prelude.{Result, Ok, Err, ⊤}
+use Rattle.refusal.specs.declared.Refusal.{Refusal}
 use Rattle.lexer.specs.Lex.{from}
 use Rattle.lexer.specs.Screen.{screened}
 use Rattle.lexer.proofs.Cleared.{clear_short}
@@ -37,24 +38,24 @@ use Rattle.render.proofs.Stands.{plain_rec}
 
 -- the text passes the screen, and the records are those that the turns read
 abbrev pub FromTurns : List ℕ → List Record → Type 0
-FromTurns s rs = (qs : List (Rec ℕ)) × (screened s ≡ Screened.Clear) × (read_ahead (ahead s (from s 0 1)) ≡ read qs) × (rs ≡ map filed qs)
+FromTurns s rs = (qs : List (Rec ℕ)) × (screened s ≡ Ok tt) × (read_ahead (ahead s (from s 0 1)) ≡ read qs) × (rs ≡ map filed qs)
 
 pub from_turns : (s : List ℕ) (rs : List Record) → reading s ≡ records rs → FromTurns s rs
 unfolding reading
 from_turns s rs = go (screened s) refl
   where
-    turned : screened s ≡ Screened.Clear → (o : Outcome Mark (Rec ℕ)) → read_ahead (ahead s (from s 0 1)) ≡ o → told o ≡ records rs → FromTurns s rs
+    turned : screened s ≡ Ok tt → (o : Outcome Mark (Rec ℕ)) → read_ahead (ahead s (from s 0 1)) ≡ o → told o ≡ records rs → FromTurns s rs
     turned c (read qs) e f = (qs, c, e, cc)
     turned c (stopped n m) e f = absurd (let z : ◌≡◌ {A = ℕ} 0 1 = cc in omega arith)
 
-    go : (c : Screened) → screened s ≡ c → elim c as (λ d. Reading) [
-      | Screened.Refused r ↦ refusal_of r
-      | Screened.Clear ↦ told (read_ahead (ahead s (from s 0 1)))
+    go : (c : Result ⊤ Refusal) → screened s ≡ c → elim c as (λ d. Reading) [
+      | Err r ↦ refusal_of r
+      | Ok clear ↦ told (read_ahead (ahead s (from s 0 1)))
     ] ≡ records rs → FromTurns s rs
-    go (Screened.Refused r) c f = absurd (let z : ◌≡◌ {A = ℕ} 0 1 = cc in omega arith)
-    go Screened.Clear c f = turned c (read_ahead (ahead s (from s 0 1))) refl f
+    go (Err r) c f = absurd (let z : ◌≡◌ {A = ℕ} 0 1 = cc in omega arith)
+    go (Ok clear) c f = turned c (read_ahead (ahead s (from s 0 1))) refl f
 
-pub told_turns : (s : List ℕ) (qs : List (Rec ℕ)) → screened s ≡ Screened.Clear → read_ahead (ahead s (from s 0 1)) ≡ read qs → reading s ≡ records (map filed qs)
+pub told_turns : (s : List ℕ) (qs : List (Rec ℕ)) → screened s ≡ Ok tt → read_ahead (ahead s (from s 0 1)) ≡ read qs → reading s ≡ records (map filed qs)
 unfolding reading
 told_turns s qs c e = rw (c, reading) (ap told e)
 
@@ -135,7 +136,7 @@ module _ (s : List ℕ) (ts : List (Tok ℕ Mark)) (h : (t : Tok ℕ Mark) → M
       (ap (λ l. plain_rec q ∷ l) (all_bared (some q.at ∷ known) qs (low_kept q.at (omega (arith, w.0)), k) w.1 o.1 n.1))
 
 -- THE RECORDS OF A READING ARE THOSE THAT THE TURNS READ, with their places
-pub bared : (s : List ℕ) (qs : List (Rec ℕ)) → screened s ≡ Screened.Clear → read_ahead (ahead s (from s 0 1)) ≡ read qs
+pub bared : (s : List ℕ) (qs : List (Rec ℕ)) → screened s ≡ Ok tt → read_ahead (ahead s (from s 0 1)) ≡ read qs
     → map (bare s) (map filed qs) ≡ map plain_rec qs
 bared s qs c t =
     let a = ahead s (from s 0 1) in

@@ -8,7 +8,7 @@ use lib.Dec.{eqb, ltb}
 use lib.ListN.{length}
 use Rattle.text.specs.Text.{bytes}
 use Rattle.lexer.specs.Kinds as Kind
-use Rattle.numeral.specs.declared.Value.TheVariants.{Scaled}
+use Rattle.numeral.specs.Numeral.{scaled}
 use Rattle.word.specs.Codes.{values_of}
 use Rattle.word.specs.Spelling.{first_of, second_of}
 use Rattle.word.proofs.Words.{both}
@@ -41,7 +41,7 @@ semicolon_says = refl
 number_says : (v : ℕ) → is_spelt (number v) ≡ true
 number_says v = go (ltb v (2 ^ 63))
   where
-    go : (t : Bool) → is_spelt (said Kind.number (numeral (cond t (Scaled false v) (Scaled true (2 ^ 64 - v))))) ≡ true
+    go : (t : Bool) → is_spelt (said Kind.number (numeral (cond t (scaled false v) (scaled true (2 ^ 64 - v))))) ≡ true
     go true = number_spelt false v
     go false = number_spelt true (2 ^ 64 - v)
 

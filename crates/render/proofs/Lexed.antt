@@ -13,7 +13,9 @@ use Rattle.lexer.specs.declared.scan.Class.{Class}
 use Rattle.lexer.specs.declared.scan.Class.TheVariants.{Letter, Space, Digit, SemiColon, NewLine, Quote}
 use Rattle.lexer.specs.Bytes.{class_of, is_letter, is_digit, is_ascii, in_name, in_number, in_string}
 use Rattle.lexer.specs.Run.{run, past}
-use Rattle.lexer.specs.Kinds as Kind
+use Rattle.lexer.specs.declared.Kind.{Kind}
+use Rattle.lexer.specs.Kinds as Kinds
+use Rattle.lexer.specs.Kinds.{number_of}
 use Rattle.lexer.specs.Lex.{from, next_line, token as found}
 use Rattle.lexer.proofs.Runs.{step}
 use Rattle.lexer.proofs.Laws.{At, none, at_letter, at_space, at_digit, at_semicolon, at_newline, at_quote}
@@ -55,30 +57,30 @@ module _ (s : List ℕ) where
   run_ends p at b w l e f g = rw (moved at (b ∷ []) (w ++ l) e, run_over p w l f, g) (omega arith)
 
   -- ---- one token, by its kind
-  abbrev Reads : ℕ → List ℕ → List ℕ → Type 0
+  abbrev Reads : Kind → List ℕ → List ℕ → Type 0
   Reads k w l = (at n : ℕ) → drop at s ≡ w ++ l → from s at n ≡ found k at (at + length w) n ∷ from s (at + length w) n
 
-  reads_name : (w l : List ℕ) → is_name w ≡ true → run in_name l ≡ 0 → Reads Kind.name w l
+  reads_name : (w l : List ℕ) → is_name w ≡ true → run in_name l ≡ 0 → Reads Kind.Name w l
   unfolding is_name
   reads_name [] l z x at n e = absurd (false≢true z)
   reads_name (b ∷ w) l z x at n e =
       let (f, g) = both (is_letter b) (all in_name w) z in
       at_letter (stands at n b (w ++ l) Letter e (letter_class b f)) _ (run_ends in_name at b w l e g x)
 
-  reads_number : (w l : List ℕ) → is_number w ≡ true → run in_number l ≡ 0 → Reads Kind.number w l
+  reads_number : (w l : List ℕ) → is_number w ≡ true → run in_number l ≡ 0 → Reads Kind.Number w l
   unfolding is_number
   reads_number [] l z x at n e = absurd (false≢true z)
   reads_number (b ∷ w) l z x at n e =
       let (f, g) = both (is_digit b || eqb b 45) (all in_number w) z in
       at_digit (stands at n b (w ++ l) Digit e (digit_class b f)) _ (run_ends in_number at b w l e g x)
 
-  reads_semicolon : (w l : List ℕ) → is_semicolon w ≡ true → Reads Kind.semicolon w l
+  reads_semicolon : (w l : List ℕ) → is_semicolon w ≡ true → Reads Kind.SemiColon w l
   unfolding is_semicolon class_of
   reads_semicolon [] l z at n e = absurd (false≢true z)
   reads_semicolon (b ∷ []) l z at n e = at_semicolon (stands at n b l SemiColon e (rw (eqb-true b 59 z)))
   reads_semicolon (b ∷ c ∷ w) l z at n e = absurd (false≢true z)
 
-  reads_string : (w l : List ℕ) → is_string w ≡ true → Reads Kind.string_literal w l
+  reads_string : (w l : List ℕ) → is_string w ≡ true → Reads Kind.StringLiteral w l
   unfolding is_string class_of
   reads_string [] l z at n e = absurd (false≢true z)
   reads_string (b ∷ w) l z at n e =
@@ -88,16 +90,16 @@ module _ (s : List ℕ) where
       at_quote (stands at n b (w ++ l) Quote e (rw (eqb-true b 34 f))) _
       (omega (arith, r, h, length-append w l, length-drop at s, ap length e))
 
-  reads : (k : ℕ) (w l : List ℕ) → is_token k w ≡ true → run in_name l ≡ 0 → run in_number l ≡ 0 → Reads k w l
+  reads : (k : ℕ) (w l : List ℕ) → is_token k w ≡ true → run in_name l ≡ 0 → run in_number l ≡ 0 → (c : Kind) × (number_of c ≡ k) × Reads c w l
   unfolding is_token
-  reads k w l z x y = go (eqb k Kind.name) (eqb k Kind.number) (eqb k Kind.semicolon) (eqb k Kind.string_literal) refl refl refl refl z
+  reads k w l z x y = go (eqb k Kinds.name) (eqb k Kinds.number) (eqb k Kinds.semicolon) (eqb k Kinds.string_literal) refl refl refl refl z
     where
-      go : (a b c d : Bool) → eqb k Kind.name ≡ a → eqb k Kind.number ≡ b → eqb k Kind.semicolon ≡ c → eqb k Kind.string_literal ≡ d
-          → cond a (is_name w) (cond b (is_number w) (cond c (is_semicolon w) (cond d (is_string w) false))) ≡ true → Reads k w l
-      go true b c d e f g h z = rw (eqb-true k Kind.name e) (reads_name w l z x)
-      go false true c d e f g h z = rw (eqb-true k Kind.number f) (reads_number w l z y)
-      go false false true d e f g h z = rw (eqb-true k Kind.semicolon g) (reads_semicolon w l z)
-      go false false false true e f g h z = rw (eqb-true k Kind.string_literal h) (reads_string w l z)
+      go : (a b c d : Bool) → eqb k Kinds.name ≡ a → eqb k Kinds.number ≡ b → eqb k Kinds.semicolon ≡ c → eqb k Kinds.string_literal ≡ d
+          → cond a (is_name w) (cond b (is_number w) (cond c (is_semicolon w) (cond d (is_string w) false))) ≡ true → (c : Kind) × (number_of c ≡ k) × Reads c w l
+      go true b c d e f g h z = (Kind.Name, sym (eqb-true k Kinds.name e), reads_name w l z x)
+      go false true c d e f g h z = (Kind.Number, sym (eqb-true k Kinds.number f), reads_number w l z y)
+      go false false true d e f g h z = (Kind.SemiColon, sym (eqb-true k Kinds.semicolon g), reads_semicolon w l z)
+      go false false false true e f g h z = (Kind.StringLiteral, sym (eqb-true k Kinds.string_literal h), reads_string w l z)
       go false false false false e f g h z = absurd (false≢true z)
 
   -- ---- blanks
@@ -125,8 +127,8 @@ module _ (s : List ℕ) where
       let (h, i) = both (parted ps) (apart ps) a in
       let w = t.bytes in
       let u = (both (is_token t.kind w) (all is_ascii w) f).0 in
-      let r = reads t.kind w (text ps) u (parted_run in_name refl refl ps h) (parted_run in_number refl refl ps h) at n e in
-      rw (r, bytes_at at w (text ps) e, written ps g i (at + length w) n (moved at w (text ps) e))
+      let (c, q, r) = reads t.kind w (text ps) u (parted_run in_name refl refl ps h) (parted_run in_number refl refl ps h) in
+      rw (r at n e, q, bytes_at at w (text ps) e, written ps g i (at + length w) n (moved at w (text ps) e))
 
 -- A WRITTEN TEXT LEXES BACK TO ITS TOKENS
 pub lexes_back : (ps : List Piece) → all_spelt (tokens ps) ≡ true → apart ps ≡ true

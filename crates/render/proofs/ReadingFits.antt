@@ -6,7 +6,7 @@ use mathlib.Core.List.{List, [], ◌∷◌, map}
 use native.Mathlib.Omega.{arith}
 use lib.Dec.{eqb}
 use Rattle.lexer.specs.declared.Lexed.{Lexed}
-use Rattle.lexer.specs.declared.Screened.TheVariants.{Clear}
+use Rattle.std.specs.Prelude.{Ok}
 use Rattle.lexer.specs.Lex.{from}
 use Rattle.lexer.specs.Screen.{screened}
 use Rattle.grammar.specs.Tokens.{Tok, Ahead, bad}
@@ -37,7 +37,7 @@ ahead_good : (s : List ℕ) (l : List Lexed) → Every Good (map (tok s) l) → 
 ahead_good s [] h = ((λ e. absurd (omega arith), λ e. absurd (omega arith)), tt)
 ahead_good s (r ∷ l) h = h
 
-tokens_good : (s : List ℕ) → screened s ≡ Clear → Every Good (all (ahead s (from s 0 1)))
+tokens_good : (s : List ℕ) → screened s ≡ Ok tt → Every Good (all (ahead s (from s 0 1)))
 tokens_good s c =
     let a = clear_ascii s c in
     ahead_good s (from s 0 1) (both_spelt (map (tok s) (from s 0 1)) (tokens_spelt s a 0 1) (string_spelt s a 0 1))
@@ -62,7 +62,7 @@ begun a qs e = go (eqb a.held.kind bad) e
     go false e = e
 
 -- WHAT A TEXT READS AS FITS
-pub reading_fits : (s : List ℕ) (qs : List (Rec ℕ)) → read_ahead (ahead s (from s 0 1)) ≡ read qs → screened s ≡ Clear → fit_from start (map plain_rec qs) ≡ true
+pub reading_fits : (s : List ℕ) (qs : List (Rec ℕ)) → read_ahead (ahead s (from s 0 1)) ≡ read qs → screened s ≡ Ok tt → fit_from start (map plain_rec qs) ≡ true
 unfolding close_of
 reading_fits s qs e c = list_read start (ahead s (from s 0 1)) qs (begun (ahead s (from s 0 1)) qs e) (tokens_good s c)
     (record { place = 0; falls = refl; climbs = records_climb qs (places_rise s (map filed qs) (told_turns s qs c e)); housed = (refl, tt) })

@@ -7,8 +7,8 @@ use native.Mathlib.Omega.{arith}
 use borrow.Author.Tests.{eq-eqb, eqb-true, leb-true, ltb-false, not-true}
 use lib.Dec.{leb, ltb, eqb}
 use Rattle.lexer.specs.Kinds as Kind
-use Rattle.numeral.specs.declared.Value.TheVariants.{Scaled}
-use Rattle.numeral.specs.Numeral.{limit, numeral_of, Good}
+use Rattle.std.specs.declared.option.Option.TheVariants.{Some}
+use Rattle.numeral.specs.Numeral.{limit, scaled, numeral_of, Good}
 use Rattle.numeral.specs.Stored.{stored_of, value_of}
 use Rattle.numeral.proofs.Round.{read_again}
 use Rattle.word.specs.Words.{same, word_of, is_key}
@@ -127,14 +127,14 @@ module _ (a : Ahead ℕ Mark) (t : Said) (ts : List Said) (z : standing a ≡ t 
 record Says (v : ℕ) : Type 0 where
   negative : Bool
   magnitude : ℕ
-  value : value_of v ≡ Scaled negative magnitude
-  good : Good (Scaled negative magnitude)
+  value : value_of v ≡ scaled negative magnitude
+  good : Good (scaled negative magnitude)
   stored : stored_of negative magnitude ≡ v
 
 stored_says : (v : ℕ) → is_stored v (value_of v) ≡ true → Says v
 stored_says v = go (ltb v (2 ^ 63)) refl
   where
-    go : (t : Bool) → ltb v (2 ^ 63) ≡ t → is_stored v (cond t (Scaled false v) (Scaled true (2 ^ 64 - v))) ≡ true → Says v
+    go : (t : Bool) → ltb v (2 ^ 63) ≡ t → is_stored v (cond t (scaled false v) (scaled true (2 ^ 64 - v))) ≡ true → Says v
     go true q h =
         let (l, e) = both (leb v limit) (eqb v v) h in
         record { negative = false; magnitude = v; value = rw q; good = (leb-true v limit l, λ z. refl); stored = refl }
@@ -150,6 +150,6 @@ pub parse_number_back : (a : Ahead ℕ Mark) (v : ℕ) (ts : List Said) → stan
 unfolding parse_number
 parse_number_back a v ts z s h =
     let n = stored_says v h in
-    let e : numeral_of (numeral (value_of v)) ≡ Scaled n.negative n.magnitude = rw n.value (read_again n.negative n.magnitude n.good) in
+    let e : numeral_of (numeral (value_of v)) ≡ Some (scaled n.negative n.magnitude) = rw n.value (read_again n.negative n.magnitude n.good) in
     back_then (λ u. u.bytes ≡ numeral (value_of v)) (λ u. u ≡ v) ts ts (expect Kind.number a) _ (expect_back a (number v) ts z s Kind.number refl)
     (λ u b q y. rw (q, e) (n.stored, y))

@@ -13,6 +13,7 @@ use Rattle.lexer.specs.declared.scan.Class.TheVariants.{Letter, Space, Digit, Se
 use Rattle.lexer.specs.declared.Lexed.{Lexed}
 use Rattle.lexer.specs.Bytes.{class_of, is_letter, is_space, is_digit, is_newline, is_ascii, in_name, in_string, in_comment}
 use Rattle.lexer.specs.Run.{run, past}
+use Rattle.lexer.specs.declared.Kind.TheVariants as K
 use Rattle.lexer.specs.Kinds as Kind
 use Rattle.lexer.specs.Lex.{from, token}
 use Rattle.lexer.proofs.Runs.{step}
@@ -37,8 +38,8 @@ StringSpelt t = t.kind ≡ Kind.string_literal → (n : ℕ) → length t.bytes 
 
 -- ---- what holds of each name, of each string literal and of all else holds of each token
 module _ (s : List ℕ) (Q : Tok ℕ Mark → Type 0)
-    (names : (i n : ℕ) → At s i n Letter → Q (tok s (token Kind.name i (past in_name s (i + 1)) n)))
-    (strings : (i n : ℕ) → At s i n Quote → Q (tok s (token Kind.string_literal i (min (past in_string s (i + 1) + 1) (length s)) n)))
+    (names : (i n : ℕ) → At s i n Letter → Q (tok s (token K.Name i (past in_name s (i + 1)) n)))
+    (strings : (i n : ℕ) → At s i n Quote → Q (tok s (token K.StringLiteral i (min (past in_string s (i + 1) + 1) (length s)) n)))
     (others : (t : Tok ℕ Mark) → (t.kind ≡ Kind.name → ⊥) → (t.kind ≡ Kind.string_literal → ⊥) → Q t) where
   abbrev Holds : List Lexed → Type 0
   Holds rs = Every Q (map (tok s) rs)
@@ -89,7 +90,7 @@ module _ (s : List ℕ) (a : all is_ascii s ≡ true) where
   low : (m i : ℕ) → all is_ascii (take m (drop i s)) ≡ true
   low m i = all_take is_ascii m (drop i s) (all_drop is_ascii i s a)
 
-  name_at : (i n : ℕ) → At s i n Letter → NameSpelt (tok s (token Kind.name i (past in_name s (i + 1)) n))
+  name_at : (i n : ℕ) → At s i n Letter → NameSpelt (tok s (token K.Name i (past in_name s (i + 1)) n))
   unfolding is_spelt is_token is_name
   name_at i n h e =
       let l = drop (i + 1) s in
@@ -98,7 +99,7 @@ module _ (s : List ℕ) (a : all is_ascii s ≡ true) where
       let w : is_name (take (j - i) (drop i s)) ≡ true = rw (k, step s i h.inside, letter_back (get_or s i 0) h.class) (run_holds in_name (run in_name l) l (omega arith)) in
       rw (w, low (j - i) i)
 
-  string_at : (i n : ℕ) → At s i n Quote → StringSpelt (tok s (token Kind.string_literal i (min (past in_string s (i + 1) + 1) (length s)) n))
+  string_at : (i n : ℕ) → At s i n Quote → StringSpelt (tok s (token K.StringLiteral i (min (past in_string s (i + 1) + 1) (length s)) n))
   string_at i n h e m q =
       let l = drop (i + 1) s in
       let k = min (run in_string l + 1) (length l) in

@@ -11,7 +11,7 @@ use lib.ListN.{length, get_or, length-append, length-replicate}
 use Rattle.text.specs.Text.{bytes}
 use Rattle.lexer.specs.Kinds as Kind
 use Rattle.lexer.specs.Screen.{limit}
-use Rattle.numeral.specs.declared.Value.TheVariants.{Scaled}
+use Rattle.numeral.specs.Numeral.{scaled}
 use Rattle.numeral.proofs.Short.{short_any}
 use Rattle.word.specs.Words.{keys, values, words}
 use Rattle.word.specs.Spelling.{spelling, first_of, second_of}
@@ -78,7 +78,7 @@ size_end = refl
 number_short : (v : ℕ) → length (number v).bytes ≤ 22
 number_short v = go (ltb v (2 ^ 63)) refl
   where
-    go : (t : Bool) → ltb v (2 ^ 63) ≡ t → length (numeral (cond t (Scaled false v) (Scaled true (2 ^ 64 - v)))) ≤ 22
+    go : (t : Bool) → ltb v (2 ^ 63) ≡ t → length (numeral (cond t (scaled false v) (scaled true (2 ^ 64 - v)))) ≤ 22
     go true e = let h = ltb-true v (2 ^ 63) e in short_any false v (omega arith)
     go false e = let h = ltb-false v (2 ^ 63) e in short_any true (2 ^ 64 - v) (omega arith)
 

@@ -2,8 +2,7 @@
 use Rattle.std.specs.Prelude.{ℕ, zero, suc, Bool, true, false, cond, not, ◌&&◌, ◌||◌, List, [], ◌∷◌, ◌++◌, leb, eqb, length, take}
 use Rattle.text.specs.Text.{bytes}
 use Rattle.lexer.specs.Kinds as Kind
-use Rattle.numeral.specs.declared.Value.{Value}
-use Rattle.numeral.specs.declared.Value.TheVariants.{Scaled, Not}
+use Rattle.numeral.specs.declared.Scaled.{Scaled}
 use Rattle.numeral.specs.Numeral.{limit}
 use Rattle.numeral.specs.Shortest.{shortest}
 use Rattle.numeral.specs.Stored.{stored_of, value_of}
@@ -22,13 +21,11 @@ unfoldable pub is_code : ℕ → ℕ → Bool
 is_code k c = not (eqb c 0) && eqb (code_of k (first_of k c) (second_of k c)) c
 
 -- the shortest numeral of a value, and whether a numeral can say it
-abbrev pub numeral : Value → List ℕ
-numeral (Scaled negative m) = shortest negative m
-numeral Not = []
+abbrev pub numeral : Scaled → List ℕ
+numeral v = shortest v.negative v.millionths
 
-abbrev pub is_stored : ℕ → Value → Bool
-is_stored v (Scaled negative m) = leb m limit && eqb (stored_of negative m) v
-is_stored v Not = false
+abbrev pub is_stored : ℕ → Scaled → Bool
+is_stored v s = leb s.millionths limit && eqb (stored_of s.negative s.millionths) v
 
 -- TOKENS
 

@@ -10,199 +10,142 @@
 //   r FILE           the records of a record file: the fields of each, then the bytes of a buffer of two records after it was put second
 #![tactic(auto)]
 
-use file::Found;
-use lexer::{Answer, Lexed};
-use numeral::{Value, Written};
+use lexer::Lexed;
 use reader::reading;
 use record::Record;
-use vectors::{hex, plain, say};
+use std::io;
+use vectors::say::{Answer, Numbers};
+use vectors::{hex, plain};
 
-fn main() {
-    let mut input = vectors::input();
-    let n = io::read_full(0, &mut input);
-    lines(&input[..n]);
+// The bytes of a text or a file that are looked at.
+const MOST: usize = 8192;
+
+// The records that there is room for: a statement has two bytes at the least.
+const RECORDS: usize = 4096;
+
+fn main(rt: HostRuntime) -> io::Result<()> {
+    vectors::for_each_line(&rt, |letter, fields| answer(&rt, letter, fields))
 }
 
-fn lines(input: &[u8]) {
-    let mut at = 0;
-    while at < input.len() {
-        let stop = vectors::next_of(b'\n', input, at);
-        line(&input[at..stop]);
-        at = stop + 1;
-    }
-}
-
-fn line(part: &[u8]) {
-    if part.len() == 0 {
-        return;
-    }
-    let letter = part[0];
+fn answer(rt: &(impl Print + AllocGlobal), letter: u8, fields: &[u8]) -> io::Result<()> {
     match letter {
-        b'f' | b'c' | b'p' => numbered(letter, &part[1..]),
-        b'r' => held(&part[1..]),
-        _ => written(letter, &part[1..]),
+        b'f' | b'c' | b'p' => numbered(rt, letter, fields),
+        b'r' => records(rt, fields),
+        _ => written(rt, letter, fields),
     }
-    say::newline();
 }
 
-fn written(letter: u8, field: &[u8]) {
-    let mut text = [0u8; 8192];
-    let n = plain::bytes(field, &mut text);
+fn written(rt: &(impl Print + AllocGlobal), letter: u8, field: &[u8]) -> io::Result<()> {
+    let text = plain::decoded(rt.alloc(), field, MOST)?;
     match letter {
-        b't' => tokens(&text[0..n]),
-        b'n' => value(&text[0..n]),
-        b'w' => word(&text[0..n]),
-        b'l' => reading(&text[0..n]),
-        _ => say::text(b"?"),
+        b't' => tokens(rt, &text),
+        b'n' => value(rt, &text),
+        b'w' => word(rt, &text),
+        b'l' => reading(rt, &text),
+        _ => print!(rt; "?"),
     }
 }
 
-fn numbered(letter: u8, fields: &[u8]) {
-    if fields.len() < 3 {
-        return;
-    }
-    let mut number = [0u8; 1];
-    let mut text = [0u8; 8192];
-    hex::bytes(&fields[0..2], &mut number);
-    let n = plain::bytes(&fields[3..], &mut text);
+fn numbered(rt: &(impl Print + AllocGlobal), letter: u8, fields: &[u8]) -> io::Result<()> {
+    let Some((given, field)) = fields.split_first_chunk::<3>() else {
+        return Ok(());
+    };
+    let [number] = hex::array::<1>(&given[0..2]);
+    let text = plain::decoded(rt.alloc(), field, MOST)?;
     match letter {
-        b'f' => first(number[0], &text[0..n]),
-        b'c' => code(number[0], &text[0..n]),
-        _ => run(number[0], &text[0..n]),
+        b'f' => first(rt, number, &text),
+        b'c' => code(rt, number, &text),
+        _ => run(rt, number, &text),
     }
 }
 
-fn held(field: &[u8]) {
-    let mut file = [0u8; 8192];
-    let n = hex::bytes(field, &mut file);
-    records(&file[0..n]);
-}
-
-fn tokens(text: &[u8]) {
+fn tokens(rt: &impl Print, text: &[u8]) -> io::Result<()> {
     let mut at = 0;
     let mut line = 1;
-    let mut left = text.len() + 1;
-    while 0 < left {
-        left -= 1;
+    for _ in 0..=text.len() {
         match lexer::lex(text, at, line) {
             Lexed::Found(t) => {
-                say::number(t.kind as u64);
-                say::number(t.start as u64);
-                say::number(t.stop as u64);
-                say::number(t.line as u64);
+                print!(rt; "{} {} {} {} ", t.kind as usize, t.start, t.stop, t.line)?;
                 at = t.stop;
                 line = t.line;
             }
-            Lexed::End(_) => {
-                say::text(b"end");
-                return;
-            }
-            Lexed::Bad(place, line) => {
-                say::text(b"bad ");
-                say::number(place as u64);
-                say::number(line as u64);
-                return;
-            }
+            Lexed::End(_) => return print!(rt; "end"),
+            Lexed::Bad(place, line) => return print!(rt; "bad {place} {line} "),
         }
     }
+    Ok(())
 }
 
-fn first(place: u8, text: &[u8]) {
-    match lexer::first_token(text, place as usize) {
-        Answer::Found(t) => six(0, 0, 0, t.kind, t.start, t.stop),
-        Answer::End => six(0, 0, 0, 0, text.len(), text.len()),
-        Answer::Refused(r) => six(r.number, r.place, r.line, 0, 0, 0),
+fn first(rt: &impl Print, place: u8, text: &[u8]) -> io::Result<()> {
+    match lexer::first_token(text, usize::from(place)) {
+        Ok(Some(t)) => print!(rt; "0 0 0 {} {} {} ", t.kind as usize, t.start, t.stop),
+        Ok(None) => print!(rt; "0 0 0 0 {} {} ", text.len(), text.len()),
+        Err(refusal) => print!(rt; "{} 0 0 0 ", Answer(Err(refusal))),
     }
 }
 
-fn six(refusal: usize, place: usize, line: usize, kind: usize, start: usize, stop: usize) {
-    say::number(refusal as u64);
-    say::number(place as u64);
-    say::number(line as u64);
-    say::number(kind as u64);
-    say::number(start as u64);
-    say::number(stop as u64);
+fn value(rt: &impl Print, text: &[u8]) -> io::Result<()> {
+    let Some(value) = numeral::numeral(text) else {
+        return print!(rt; "not");
+    };
+    let sign = if value.negative { '-' } else { '+' };
+    print!(rt; "{sign} {} ", value.millionths)?;
+    let mut shortest = [0; 24];
+    match numeral::put(value, &mut shortest, 0) {
+        Some(stop) => rt.write_all(shortest.get(..stop).unwrap_or(&[])),
+        None => print!(rt; "no room"),
+    }
 }
 
-fn value(text: &[u8]) {
-    match numeral::numeral(text) {
-        Value::Scaled(negative, m) => {
-            say::sign(negative);
-            say::number(m);
-            shortest(negative, m);
+fn word(rt: &impl Print, text: &[u8]) -> io::Result<()> {
+    match word::word_of(text) {
+        0 => print!(rt; "none"),
+        k if word::is_key(k) => print!(rt; "{k} "),
+        _ => print!(rt; "value"),
+    }
+}
+
+fn code(rt: &impl Print, kind: u8, text: &[u8]) -> io::Result<()> {
+    let (first, second) = match vectors::cut(b' ', text) {
+        Some((first, second)) => (first, word::word_of(second)),
+        None => (text, 0),
+    };
+    print!(rt;
+        "{} ",
+        word::codes::code_of(kind, word::word_of(first), second)
+    )
+}
+
+fn reading(rt: &(impl Print + AllocGlobal), text: &[u8]) -> io::Result<()> {
+    let mut records = vec![in rt.alloc(); 0; Record::SIZE * RECORDS]?;
+    let read = reading::read(text, &mut records);
+    listing::answer(rt, read, &records, ";");
+    Ok(())
+}
+
+fn run(rt: &(impl Print + AllocGlobal), number: u8, text: &[u8]) -> io::Result<()> {
+    println!(rt; "run {number} ")?;
+    listing::list(rt, text);
+    Ok(())
+}
+
+fn records(rt: &(impl Print + AllocGlobal), digits: &[u8]) -> io::Result<()> {
+    let file = hex::decoded(rt.alloc(), digits, MOST)?;
+    for i in 0..8 {
+        match file::read(&file, i) {
+            Some(r) => record(rt, r)?,
+            None => return print!(rt; "past"),
         }
-        Value::Not => say::text(b"not"),
     }
+    Ok(())
 }
 
-fn shortest(negative: bool, m: u64) {
-    let mut out = [0u8; 24];
-    match numeral::put(negative, m, &mut out, 0) {
-        Written::Upto(n) => say::front(&out, n),
-        Written::NoRoom => say::text(b"no room"),
-    }
-}
-
-fn word(text: &[u8]) {
-    let k = word::word_of(text);
-    if word::is_key(k) {
-        say::number(k as u64);
-    } else if k == 0 {
-        say::text(b"none");
-    } else {
-        say::text(b"value");
-    }
-}
-
-fn code(kind: u8, text: &[u8]) {
-    let stop = vectors::next_of(b' ', text, 0);
-    let first = word::word_of(&text[0..stop]);
-    if stop < text.len() {
-        let next = stop + 1;
-        let second = word::word_of(&text[next..]);
-        say::number(word::codes::code_of(kind, first, second) as u64);
-    } else {
-        say::number(word::codes::code_of(kind, first, 0) as u64);
-    }
-}
-
-fn reading(text: &[u8]) {
-    let mut records = [0u8; 147456];
-    listing::answer(reading::read(text, &mut records), &records, b";");
-}
-
-fn run(number: u8, text: &[u8]) {
-    say::text(b"run ");
-    say::number(number as u64);
-    say::newline();
-    listing::list(text);
-}
-
-fn records(file: &[u8]) {
-    let mut i = 0;
-    while i < 8 {
-        match file::read(file, i) {
-            Found::At(r) => one(r),
-            Found::Past => {
-                say::text(b"past");
-                return;
-            }
-        }
-        i += 1;
-    }
-}
-
-fn one(r: Record) {
-    say::number(r.kind() as u64);
-    say::number(r.code() as u64);
-    say::number(r.at() as u64);
-    say::number(r.owner() as u64);
-    say::number(r.name() as u64);
-    say::number(r.len() as u64);
-    say::number(r.x());
-    say::number(r.y());
-    let mut copy = [0u8; 72];
+fn record(rt: &impl Print, r: Record) -> io::Result<()> {
+    print!(rt; "{} {} {} {} ", r.kind(), r.code(), r.at(), r.owner())?;
+    print!(rt; "{} {} {} {} ", r.name(), r.len(), r.x(), r.y())?;
+    let mut copy = [0; 2 * Record::SIZE];
     if file::put(r, &mut copy, 1) {
-        say::bytes(&copy);
+        print!(rt; "{}", Numbers(&copy))?;
     }
+    Ok(())
 }

@@ -25,7 +25,7 @@ in_file n file i p h =
     omega (arith, mul_comm n (suc i), mul-suc n i)
 
 -- a part of a front is that part of the whole
-part : (o k m : ℕ) (l : List ℕ) → o + k ≤ m → take k (drop o (take m l)) ≡ take k (drop o l)
+pub part : (o k m : ℕ) (l : List ℕ) → o + k ≤ m → take k (drop o (take m l)) ≡ take k (drop o l)
 part zero k m l h = take-take k m l (omega arith)
 part (suc o) k zero l h = absurd (omega arith)
 part (suc o) k (suc m) [] h = refl

@@ -9,7 +9,9 @@ use native.Mathlib.Nat.{zero-add, div-zero}
 use native.Mathlib.Omega.{arith}
 use borrow.Author.Tests.{ltb-true}
 use lib.ListN.{length, take, drop, set}
-use lib.Seq.{sets, sets-eq, take_at, drop_at, length-sets, drop-set-add, drop-set-lt, take-set-le, length-take-le}
+use borrow.Rule.Slice.PartMut.{put_mid}
+use lib.Seq.{take_all, sets, sets-eq, take_at, drop_at, length-sets, drop-set-add, drop-set-lt, take-set-le, length-take-le}
+use Rattle.std.proofs.lemmas.Slice.{put_mid-paste}
 use Rattle.rowfile.specs.Rows.{count, has_room, row_at, stored}
 use Rattle.rowfile.proofs.Parts.{apart, in_file}
 
@@ -23,6 +25,10 @@ sets_front l file h = rw (zero-add (length l)) at (sets-eq l file 0 (omega arith
 pub sets_append : (xs ys l : List ℕ) (p : ℕ) → sets l p (xs ++ ys) ≡ sets (sets l p xs) (p + length xs) ys
 sets_append [] ys l p = ap (λ q. sets l q ys) (omega arith)
 sets_append (x ∷ xs) ys l p = sets_append xs ys (set l p x) (suc p) ∙ ap (λ q. sets (sets (set l p x) (suc p) xs) q ys) (omega arith)
+
+-- a run is what a copy over that part leaves
+pub sets_copied : (ys zs l : List ℕ) (p k : ℕ) → ys ≡ zs → k ≡ length zs → p + length zs ≤ length l → put_mid p k l ys ≡ sets l p zs
+sets_copied ys zs l p k e h r = put_mid-paste p k l ys zs k e refl h ∙ rw (h, take_all (length zs) zs (omega arith)) (sym (sets-eq zs l p r))
 
 -- a part that ends before a run, or starts after it, is kept
 kept_before : (ys l : List ℕ) (p o n : ℕ) → o + n ≤ p → take n (drop o (sets l p ys)) ≡ take n (drop o l)

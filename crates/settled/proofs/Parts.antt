@@ -40,6 +40,12 @@ use Rattle.file.specs.contracts.read as of-read-record
 use Rattle.file.proofs.read.Reads as of-read-record-says
 use Rattle.little.specs.contracts.number as of_number
 use Rattle.little.proofs.number.Reads as of-number-says
+use Rattle.little.specs.contracts.four as of-four-bytes
+use Rattle.little.proofs.four.Reads as of-four-bytes-says
+use Rattle.little.specs.contracts.eight as of-eight-bytes
+use Rattle.little.proofs.eight.Reads as of-eight-bytes-says
+use Rattle.file.specs.contracts.at as of-at-record
+use Rattle.file.proofs.at.Reads as of-at-record-says
 use Rattle.little.specs.contracts.word32 as of-word32
 use Rattle.little.proofs.word32.Reads as of-word32-says
 use Rattle.little.specs.contracts.word64 as of-word64
@@ -85,7 +91,7 @@ pub width : Settles of_width.ended of-width-says.Learnt
 width κs i a b v w p q = (same p q, refl)
 
 pub put_numeral : Settles of-put-numeral.ended of-put-numeral-says.Learnt
-put_numeral κs i a b v w p q = (same p.0 q.0, λ i. (tt, (tt, (same p.1 q.1 i, (tt, tt)))))
+put_numeral κs i a b v w p q = (same p.0 q.0, λ i. (tt, (same p.1 q.1 i, (tt, tt))))
 
 pub word_of : Settles of-word-of.ended of-word-of-says.Learnt
 word_of κs i a b v w p q = (same p q, refl)
@@ -122,6 +128,15 @@ number κs i a b v w p q = (same p.0 q.0, refl)
 
 pub lay : Settles of-lay.ended of-lay-says.Learnt
 lay κs i a b v w p q = (refl, λ i. (same p q i, (tt, (tt, (tt, tt)))))
+
+pub at_record : Settles of-at-record.ended of-at-record-says.Learnt
+at_record κs i a b v w p q = (same p q, refl)
+
+pub four_bytes : Settles of-four-bytes.ended of-four-bytes-says.Learnt
+four_bytes κs i a b v w p q = (same p.0 q.0, refl)
+
+pub eight_bytes : Settles of-eight-bytes.ended of-eight-bytes-says.Learnt
+eight_bytes κs i a b v w p q = (same p q, refl)
 
 pub word32 : Settles of-word32.ended of-word32-says.Learnt
 word32 κs i a b v w p q = (same p.0 q.0, refl)

@@ -40,7 +40,8 @@ fn rising_child(text: &[u8], file: &[u8], sinking: Entry, i: usize, n: usize) ->
 }
 
 // Lets the entry at the start sink among the first n, until none of its children comes after it. It is read once: reading what was just written
-// by bytes is slow.
+// by bytes is slow. How far it sinks is told
+// by what stands below it, so no `for` gives its places.
 fn sift(text: &[u8], file: &mut [u8], start: usize, n: usize)
     requires { (start < n) × (n ≤ length file.old / 16) }
     ensures { Sifts text.now start n file.old file.new }
@@ -62,9 +63,7 @@ fn heap(text: &[u8], file: &mut [u8])
     ensures { Heaps text.now file.old file.new }
 {
     let n = file.len() / Entry::SIZE;
-    let mut i = n / 2;
-    while 0 < i {
-        i -= 1;
+    for i in (0..n / 2).rev() {
         sift(text, file, i, n);
     }
 }
@@ -74,9 +73,7 @@ pub fn sort(text: &[u8], file: &mut [u8])
     ensures { Sorts text.now file.old file.new }
 {
     heap(text, file);
-    let mut end = file.len() / Entry::SIZE;
-    while 1 < end {
-        end -= 1;
+    for end in (1..file.len() / Entry::SIZE).rev() {
         rowfile::swap(file, Entry::SIZE, 0, end);
         sift(text, file, 0, end);
     }

@@ -1,10 +1,14 @@
 -- Bytes are put into a buffer one by one: what is stored so far, and the bytes that are left stored on from there, come to the whole.
 use Prim.Native.Nat.{ℕ, suc, ◌+◌, ◌≤◌, ◌<◌, min}
 use mathlib.Core.Path.{◌≡◌, refl}
-use mathlib.Core.List.{List, [], ◌∷◌}
+use mathlib.Core.Bool.{Bool, true, false}
+use borrow.Author.Tests.{ltb-true, ltb-false}
+use lib.Dec.{ltb}
+use mathlib.Core.List.{List, [], ◌∷◌, ◌++◌}
+use Rattle.std.proofs.lemmas.List.{take-take, take-append-le}
 use native.Mathlib.Numerals.{add-one}
 use native.Mathlib.Omega.{arith}
-use lib.ListN.{length, set, length-set}
+use lib.ListN.{length, take, set, length-set}
 use lib.Seq.{sets, set_out}
 
 -- of the bytes `whole`, which go to the front of out₀, n are in the buffer `out`, and `rest` are left
@@ -37,3 +41,32 @@ module _ {out₀ whole out : List ℕ} {n : ℕ} {rest : List ℕ} (p : Putting 
 
   pub full : length out ≤ n → (n ≡ min (length whole) (length out₀)) × (out ≡ sets out₀ 0 whole)
   full h = (omega (arith, p.room, p.same, p.left), rw (beyond out n rest h) at p.laid)
+
+  -- the bytes end, or the room does
+  pub over : (n < length out → rest ≡ []) → (n ≡ min (length whole) (length out₀)) × (out ≡ sets out₀ 0 whole)
+  over h = decide (ltb n (length out)) refl
+    where
+      decide : (t : Bool) → ltb n (length out) ≡ t → (n ≡ min (length whole) (length out₀)) × (out ≡ sets out₀ 0 whole)
+      decide true e = all (h (ltb-true n (length out) e))
+      decide false e = full (ltb-false n (length out) e)
+
+-- bytes stored from the second place on leave the first
+past : (x : ℕ) (l : List ℕ) (i : ℕ) (vs : List ℕ) → sets (x ∷ l) (suc i) vs ≡ x ∷ sets l i vs
+past x l i [] = refl
+past x l i (v ∷ vs) = past x (set l i v) (suc i) vs
+
+-- what then stands at the front of the buffer: the bytes, or as many of them as there is room for
+pub taken : (out whole : List ℕ) → take (min (length whole) (length out)) (sets out 0 whole) ≡ take (length out) whole
+taken [] whole =
+    let none : min (length whole) 0 ≡ 0 = omega arith in
+    rw none
+taken (x ∷ l) [] =
+    let none : min 0 (length (x ∷ l)) ≡ 0 = omega arith in
+    rw none
+taken (x ∷ l) (b ∷ vs) =
+    let more : min (suc (length vs)) (suc (length l)) ≡ suc (min (length vs) (length l)) = omega arith in
+    rw (more, past b l 0 vs, taken l vs)
+
+-- the front of a buffer, of the vector that holds it
+pub kept : (n m : ℕ) (xs ys : List ℕ) → n ≤ m → n ≤ length xs → take n (take m (xs ++ ys)) ≡ take n xs
+kept n m xs ys few here = rw (take-take n m (xs ++ ys) few) (take-append-le n xs ys here)

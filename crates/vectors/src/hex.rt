@@ -1,18 +1,18 @@
 // Bytes in hexadecimal.
-ghost use Rattle.std.specs.Prelude.{◌≡◌, ◌<◌, min, length};
+ghost use Rattle.std.specs.Prelude.{◌≡◌, ◌<◌, min, length, take, replicate, IfOk};
 ghost use Rattle.std.proofs.lemmas.List.Edits.{sets};
 ghost use Rattle.vectors.specs.Hex.{digit, pair, pairs};
+
+use std::alloc::{AllocError, Global};
 
 fn digit(b: u8) -> u8
     ensures { (result ≡ digit b) × (result < 16) }
 {
-    if (b'0' <= b) & (b <= b'9') {
-        return b - b'0';
+    match b {
+        b'0'..=b'9' => b - b'0',
+        b'a'..=b'f' => b - b'a' + 10,
+        _ => 0,
     }
-    if (b'a' <= b) & (b <= b'f') {
-        return b - b'a' + 10;
-    }
-    0
 }
 
 // The byte that two digits stand for.
@@ -27,10 +27,42 @@ pub fn bytes(digits: &[u8], out: &mut [u8]) -> usize
     ensures value { result ≡ min (length (pairs digits.now)) (length out.old) }
     ensures out_after { out.new ≡ sets out.old 0 (pairs digits.now) }
 {
-    let mut n = 0;
-    while n < digits.len() / 2 && n < out.len() {
+    let count = out.len().min(digits.len() / 2);
+    for n in 0..count {
         out[n] = pair(digits[2 * n], digits[2 * n + 1]);
-        n += 1;
     }
-    n
+    count
+}
+
+// The bytes that the digits stand for, or the first of them, so many at the most.
+pub fn decoded(alloc: Global, digits: &[u8], most: usize) -> Result<Vec<u8>, AllocError>
+    ensures { IfOk result (λ v. v.items ≡ take most (pairs digits.now)) }
+{
+    let mut out = vec![in alloc; 0; most]?;
+    let n = bytes(digits, &mut out);
+    out.truncate(n);
+    Ok(out)
+}
+
+// The bytes that the first digits stand for, and zeros where there are too few.
+pub fn array<const N: usize>(digits: &[u8]) -> [u8; N]
+    ensures { result ≡ sets (replicate N 0) 0 (pairs digits.now) }
+{
+    let mut out = [0; N];
+    bytes(digits, &mut out);
+    out
+}
+
+// The size of a buffer, in four digits, of which the first counts as nought.
+pub fn size(digits: &[u8]) -> usize
+    ensures { result < 4096 }
+{
+    usize::from(u16::from_be_bytes(array(digits)) % 4096)
+}
+
+// The number in three bytes at a place, the lowest byte first; a byte past the end counts as nought.
+pub fn three(bytes: &[u8], place: usize) -> usize
+    ensures { result < 16777216 }
+{
+    little::number(bytes, place, 3) as usize
 }

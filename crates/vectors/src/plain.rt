@@ -1,46 +1,45 @@
 // Texts that are written so that they can be read: `\` and two digits are one byte in hexadecimal, and any other byte is itself.
-ghost use Rattle.std.specs.Prelude.{◌≡◌, ◌∷◌, ◌≤◌, ◌<◌, min, length, drop};
+ghost use Rattle.std.specs.Prelude.{◌≡◌, ◌∷◌, [], ◌↔◌, min, length, take, IfOk, IfSome, IsNone};
 ghost use Rattle.std.proofs.lemmas.List.Edits.{sets};
 ghost use Rattle.vectors.specs.Plain.{meant};
 
 use crate::hex;
+use std::alloc::{AllocError, Global};
 
 // The bytes that a written text stands for, put at the front of `out`: how many there are, or as many of them as there is room for.
 pub fn bytes(written: &[u8], out: &mut [u8]) -> usize
     ensures value { result ≡ min (length (meant written.now)) (length out.old) }
     ensures out_after { out.new ≡ sets out.old 0 (meant written.now) }
 {
-    let mut i = 0;
-    let mut n = 0;
-    while i < written.len() && n < out.len() {
-        let first = first(written, i);
-        out[n] = first.value;
-        i = first.next;
-        n += 1;
-    }
-    n
-}
-
-// A byte, and the place after its writing.
-#[derive(Clone, Copy)]
-struct Byte {
-    value: u8,
-    next: usize,
-}
-
-// The first byte that is written from the place i on.
-fn first(written: &[u8], i: usize) -> Byte
-    requires { i < length written.now }
-    ensures { (meant (drop i written.now) ≡ result.value ∷ meant (drop result.next written.now)) × (i < result.next) × (result.next ≤ length written.now) }
-{
-    if (2 < written.len() - i) & (written[i] == b'\\') {
-        return Byte {
-            value: hex::pair(written[i + 1], written[i + 2]),
-            next: i + 3,
+    let mut rest = written;
+    for n in 0..out.len() {
+        let Some((byte, after)) = first(rest) else {
+            return n;
         };
+        out[n] = byte;
+        rest = after;
     }
-    Byte {
-        value: written[i],
-        next: i + 1,
+    out.len()
+}
+
+// The bytes that a written text stands for, or the first of them, so many at the most.
+pub fn decoded(alloc: Global, written: &[u8], most: usize) -> Result<Vec<u8>, AllocError>
+    ensures { IfOk result (λ v. v.items ≡ take most (meant written.now)) }
+{
+    let mut out = vec![in alloc; 0; most]?;
+    let n = bytes(written, &mut out);
+    out.truncate(n);
+    Ok(out)
+}
+
+// The first byte that is written, and what is written after it.
+fn first(written: &[u8]) -> Option<(u8, &[u8])>
+    ensures none { IsNone result ↔ (written.now ≡ []) }
+    ensures meant { IfSome result (λ p. meant written.now ≡ p.0 ∷ meant p.1.now) }
+{
+    let (byte, after) = written.split_first()?;
+    if *byte == b'\\' && 1 < after.len() {
+        return Some((hex::pair(after[0], after[1]), &after[2..]));
     }
+    Some((*byte, after))
 }

@@ -1,70 +1,56 @@
-// What the program prints. What is written goes to the system, of which no contract can speak: these functions have none, and are proved to
-// be safe and to end.
-pub fn text(word: &[u8]) {
-    io::write_all(1, word);
-}
-
-pub fn newline() {
-    io::write_all(1, b"\n");
-}
-
-// A number and a space.
-pub fn number(n: u64) {
-    io::print_decimal(1, n);
-    io::write_all(1, b" ");
-}
-
-pub fn sign(negative: bool) {
-    if negative {
-        io::write_all(1, b"- ");
-    } else {
-        io::write_all(1, b"+ ");
-    }
-}
-
-// The first n bytes.
-pub fn front(bytes: &[u8], n: usize) {
-    if n <= bytes.len() {
-        text(&bytes[0..n]);
-    }
-}
-
-// Each byte as a number.
-pub fn bytes(all: &[u8]) {
-    let mut i = 0;
-    while i < all.len() {
-        number(wide(all[i]));
-        i += 1;
-    }
-}
-
-fn wide(b: u8) -> u64 {
-    b as u64
-}
+// How answers are printed. What is written goes to the system, of which no contract can speak.
+use refusal::Refusal;
+use std::fmt;
 
 // Each byte in hexadecimal.
-pub fn hex(all: &[u8]) {
-    let mut i = 0;
-    while i < all.len() {
-        let b = all[i];
-        text(&[digit(b / 16), digit(b % 16)]);
-        i += 1;
+#[derive(Clone, Copy)]
+pub struct Hex<'a>(pub &'a [u8]);
+
+impl fmt::Display for Hex<'_> {
+    fn fmt<W: fmt::Write>(&self, f: &mut fmt::Formatter<W>) -> fmt::Result {
+        for b in self.0 {
+            write!(f, "{b:02x}")?;
+        }
+        Ok(())
     }
 }
 
-fn digit(d: u8) -> u8 {
-    if d < 10 {
-        return b'0' + d;
+// Each byte as a number, and a space.
+#[derive(Clone, Copy)]
+pub struct Numbers<'a>(pub &'a [u8]);
+
+impl fmt::Display for Numbers<'_> {
+    fn fmt<W: fmt::Write>(&self, f: &mut fmt::Formatter<W>) -> fmt::Result {
+        for b in self.0 {
+            write!(f, "{b} ")?;
+        }
+        Ok(())
     }
-    if d < 16 {
-        return b'a' + (d - 10);
-    }
-    b'?'
 }
 
-// The first n bytes in hexadecimal.
-pub fn front_hex(all: &[u8], n: usize) {
-    if n <= all.len() {
-        hex(&all[0..n]);
+// What a call answers, in three numbers: 0, how many and 0 where it is done, and else its refusal, place and line.
+#[derive(Clone, Copy)]
+pub struct Answer(pub Result<usize, Refusal>);
+
+impl fmt::Display for Answer {
+    fn fmt<W: fmt::Write>(&self, f: &mut fmt::Formatter<W>) -> fmt::Result {
+        match self.0 {
+            Ok(count) => write!(f, "0 {count} 0"),
+            Err(r) => write!(f, "{} {} {}", r.number, r.place, r.line),
+        }
+    }
+}
+
+// What a look-up answers, in five numbers: its answer in three, and then 1 and what is found, or 0 and 0.
+#[derive(Clone, Copy)]
+pub struct Found(pub Result<Option<usize>, Refusal>);
+
+impl fmt::Display for Found {
+    fn fmt<W: fmt::Write>(&self, f: &mut fmt::Formatter<W>) -> fmt::Result {
+        match self.0 {
+            Ok(Some(found)) => write!(f, "0 0 0 1 {found}"),
+            Ok(None) => write!(f, "0 0 0 0 0"),
+            Err(r) => write!(f, "{} {} {} 0 0", r.number, r.place, r.line),
+        }
     }
 }

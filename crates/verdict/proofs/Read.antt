@@ -3,26 +3,17 @@ use Prim.Native.Nat.{ℕ, zero, suc, ◌≤◌, ◌<◌}
 use native.Mathlib.Nat.{le_of_suc-le-suc, not-suc-le-zero}
 use native.Mathlib.Omega.{arith}
 use mathlib.Core.Path.{◌≡◌, refl}
-use mathlib.Core.Bool.{Bool, true, false, cond}
 use mathlib.Core.Logic.{⊎_elim}
 use mathlib.Core.List.Memᴰ
 use mathlib.Core.List.Permᴰ
 use mathlib.Core.List.{List, [], ◌∷◌, Memᴰ}
-use lib.Dec.{eqb, ltb}
 use lib.ListN.{length}
 use Rattle.refusal.specs.declared.Refusal.{Refusal}
-use Rattle.refusal.specs.Table.{refused, too_long, not_ascii}
 use Rattle.record.specs.declared.Record.{Record}
 use Rattle.record.specs.Range.{InRange}
-use Rattle.lexer.specs.declared.Screened.{Screened}
-use Rattle.lexer.specs.Lex.{from}
-use Rattle.lexer.specs.Screen.{limit, first_high, screened}
 use Rattle.grammar.specs.Standing.{Every, Rising, places_of}
-use Rattle.grammar.specs.Tokens.{Ahead, bad}
-use Rattle.grammar.specs.Engine.{Rec}
-use Rattle.grammar.specs.Turns.{Outcome, read, stopped}
-use Rattle.grammar.specs.Reading.{Mark, ahead, start, read_ahead, Reading, records, refusal_of, told, reading}
-use Rattle.grammar.proofs.Falls.{read_on, refusal_number}
+use Rattle.grammar.specs.Reading.{records, refusal_of, reading}
+use Rattle.grammar.proofs.Refusals.{refusal_number}
 use Rattle.grammar.proofs.Places.{places_rise}
 use Rattle.grammar.proofs.Ranges.{in_range}
 use Rattle.verdict.specs.Meaning.{nth, Rises, Permutation}
@@ -64,42 +55,5 @@ reading_fits s rs fs e p = every_member InRange fs (every_order InRange p (in_ra
 
 -- THE NUMBERS OF REFUSALS
 
-abbrev Numbered : Reading → Type 0
-Numbered (records rs) = Unit {0}
-Numbered (refusal_of r) = (1 ≤ r.number) × (r.number ≤ 10)
-
-ahead_numbered : (a : Ahead ℕ Mark) → Numbered (told (read_ahead a))
-unfolding read_ahead
-ahead_numbered a = go (eqb a.held.kind bad)
-  where
-    on : (o : Outcome Mark (Rec ℕ)) → read_on start a ≡ o → Numbered (told o)
-    on (read rs) e = tt
-    on (stopped n m) e = let h = refusal_number start a n m e in (omega (arith, h.0), h.1)
-
-    go : (b : Bool) → Numbered (told (cond b (stopped 3 a.held.mark) (read_on start a)))
-    go true = (omega arith, omega arith)
-    go false = on (read_on start a) refl
-
-screen_numbered : (s : List ℕ) (r : Refusal) → screened s ≡ Screened.Refused r → (1 ≤ r.number) × (r.number ≤ 10)
-unfolding screened
-screen_numbered s r = go (ltb limit (length s)) (ltb (first_high s) (length s))
-  where
-    go : (b c : Bool) → cond b (Screened.Refused (refused too_long 0 0)) (cond c (Screened.Refused (refused not_ascii (first_high s) 0)) Screened.Clear) ≡ Screened.Refused r
-        → (1 ≤ r.number) × (r.number ≤ 10)
-    go true c e = let z : r ≡ refused too_long 0 0 = cc in rw z (omega arith, omega arith)
-    go false true e = let z : r ≡ refused not_ascii (first_high s) 0 = cc in rw z (omega arith, omega arith)
-    go false false e = absurd (let z : ◌≡◌ {A = ℕ} 0 1 = cc in omega arith)
-
-numbered : (s : List ℕ) → Numbered (reading s)
-unfolding reading
-numbered s = go (screened s) refl
-  where
-    go : (c : Screened) → screened s ≡ c → Numbered (elim c as (λ d. Reading) [
-      | Screened.Refused r ↦ refusal_of r
-      | Screened.Clear ↦ told (read_ahead (ahead s (from s 0 1)))
-    ])
-    go (Screened.Refused r) e = screen_numbered s r e
-    go Screened.Clear e = ahead_numbered (ahead s (from s 0 1))
-
 pub refusal_low : (s : List ℕ) (r : Refusal) → reading s ≡ refusal_of r → (1 ≤ r.number) × (r.number ≤ 10)
-refusal_low s r e = rw e at (numbered s)
+refusal_low s r e = refusal_number s r.number r.place r.line e

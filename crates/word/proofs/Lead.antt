@@ -14,7 +14,7 @@ use Rattle.little.proofs.Laws.{drop_bytes}
 use Rattle.text.specs.Text.{bytes}
 use Rattle.word.specs.Words.{keys, values, words, upper, same, first_where, word_of}
 use Rattle.word.specs.Lookup.{stems, word_count, nodes, node_of, marked, stretch, key_of, place_in, next_of}
-use Rattle.word.proofs.Words.{clash, same_eq, same_refl, upper_drop}
+use Rattle.word.proofs.Words.{clash, same_eq, same_refl}
 use Rattle.word.proofs.Marked.{told}
 use Rattle.word.proofs.First.{look, agree, joined}
 use Rattle.word.proofs.Trie.{Lawful, Node, node_law, node_or_none, few, known}
@@ -86,20 +86,6 @@ module _ (v c : List ℕ) (a : Ahead v c) where
 
       alike : (j : ℕ) → j < length nodes → eqb (key_of (get_or nodes j [])) (node_of v + 256 * marked c) ≡ same (v ++ c) (get_or nodes j [])
       alike j h = at (get_or nodes j []) (node_law j h) (same (v ++ c) (get_or nodes j [])) refl
-
--- the keys have upper case only, so a stretch that leads to a node as it is written is in upper case
-pub as_written : (k : ℕ) (c : List ℕ) → k < 256 → Bytes c → (next_of (k + 256 * marked c) ≡ 0 → ⊥) → upper c ≡ c
-unfolding next_of key_of
-as_written k c h bs z = ⊎_elim
-    (λ r. at (get_or nodes r.j []) (node_law r.j r.inside) (eqb-true _ _ r.holds))
-    (λ r. absurd (z (rw known (placed 1 nodes (k + 256 * marked c) ∙ r.none))))
-    (look (λ w. eqb (key_of w) (k + 256 * marked c)) 1 nodes)
-  where
-    at : (w : List ℕ) → Lawful w → key_of w ≡ k + 256 * marked c → upper c ≡ c
-    at w l e =
-        let m : marked (drop (stretch w) w) ≡ marked c = omega (arith, e, few (take (stretch w) w)) in
-        let d : drop (stretch w) w ≡ c = told _ _ (drop_bytes (stretch w) w l.whole) bs m in
-        rw (← d) (upper_drop (stretch w) w ∙ ap (drop (stretch w)) l.in_upper)
 
 -- a node's beginnings are nodes, so what begins with no node is none
 pub no_node : (u : List ℕ) (q : ℕ) → 0 < q → 6 * q < length u → node_of (take (6 * q) u) ≡ 0 → node_of u ≡ 0

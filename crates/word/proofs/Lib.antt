@@ -9,3 +9,5 @@ pub mod Values
 pub mod Spelt
 pub mod Masks
 pub mod Hits
+mod Sorted
+mod Chunks

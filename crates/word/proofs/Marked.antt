@@ -1,40 +1,28 @@
 -- Bytes as a number with a mark: one step of the sum, and that the number tells the bytes.
 use Prim.Native.Nat.{ℕ, suc, ◌+◌, ◌-◌, ◌*◌, ◌^◌, ◌≤◌, ◌<◌}
-use mathlib.Core.Path.{◌≡◌, refl}
-use mathlib.Core.Bool.{Bool, true, false, cond}
+use mathlib.Core.Path.{◌≡◌, refl, ap, ◌∙◌}
 use mathlib.Core.List.{List, [], ◌∷◌}
 use native.Mathlib.Nat.{pow-suc, pow-le-pow_right}
 use native.Mathlib.Omega.{arith}
-use lib.ListN.{length, take, drop, get_or}
+use lib.ListN.{length, drop, get_or}
 use lib.Seq.{drop-cons}
 use Rattle.little.specs.Little.{Bytes}
 use Rattle.word.specs.Words.{raised, upper}
-use Rattle.word.specs.Lookup.{marked, cased}
-
-pub no_bytes : (raising : Bool) → marked (cased raising []) ≡ 1
-unfolding upper marked cased
-no_bytes true = refl
-no_bytes false = refl
-
-first : (raising : Bool) (b : ℕ) (c : List ℕ) → marked (cased raising (b ∷ c)) ≡ cond raising (raised b) b + 256 * marked (cased raising c)
-unfolding upper marked cased
-first true b c = refl
-first false b c = refl
+use Rattle.word.specs.Lookup.{marked}
 
 -- a stretch that starts one byte earlier
-pub earlier : (raising : Bool) (to i : ℕ) (l : List ℕ) → 0 < i → i ≤ to → to ≤ length l
-    → marked (cased raising (take (to - (i - 1)) (drop (i - 1) l)))
-    ≡ cond raising (raised (get_or l (i - 1) 0)) (get_or l (i - 1) 0) + 256 * marked (cased raising (take (to - i) (drop i l)))
-earlier raising to i l p h r =
-    let e : to - (i - 1) ≡ suc (to - i) = omega arith in
+pub earlier : (i : ℕ) (l : List ℕ) → 0 < i → i ≤ length l
+    → marked (upper (drop (i - 1) l)) ≡ raised (get_or l (i - 1) 0) + 256 * marked (upper (drop i l))
+unfolding upper marked
+earlier i l p h =
     let s : suc (i - 1) ≡ i = omega arith in
     let inside : i - 1 < length l = omega arith in
-    rw (e, drop-cons l (i - 1) 0 inside, s) (first raising (get_or l (i - 1) 0) (take (to - i) (drop i l)))
+    ap (λ t. marked (upper t)) (drop-cons l (i - 1) 0 inside) ∙ ap (λ j. raised (get_or l (i - 1) 0) + 256 * marked (upper (drop j l))) s
 
-pub wider : (to i b s : ℕ) → 0 < i → i ≤ to → b < 256 → s < 2 * 256 ^ (to - i) → 256 * s + b < 2 * 256 ^ (to - (i - 1))
-wider to i b s p h q r =
-    let e : to - (i - 1) ≡ suc (to - i) = omega arith in
-    rw (e, pow-suc 256 (to - i)) (omega arith)
+pub wider : (n i b s : ℕ) → 0 < i → i ≤ n → b < 256 → s < 2 * 256 ^ (n - i) → 256 * s + b < 2 * 256 ^ (n - (i - 1))
+wider n i b s p h q r =
+    let e : n - (i - 1) ≡ suc (n - i) = omega arith in
+    rw (e, pow-suc 256 (n - i)) (omega arith)
 
 bound : (m n s : ℕ) → m ≤ n → s < 2 * 256 ^ m → s < 2 * 256 ^ n
 bound m n s h r = let k : 256 ^ m ≤ 256 ^ n = pow-le-pow_right (omega arith) {i = m} {j = n} h in omega arith

@@ -1,15 +1,15 @@
 -- One turn of the look-up: the bytes passed are a node, and the next stretch leads to the next node or shows that there is no word.
 use Prim.Native.Nat.{ℕ, ◌+◌, ◌-◌, ◌*◌, ◌≤◌, ◌<◌, min}
-use mathlib.Core.Path.{◌≡◌, refl, sym, ap, ◌∙◌}
-use mathlib.Core.List.{List, [], ◌∷◌}
+use mathlib.Core.Path.{◌≡◌, sym, ap, ◌∙◌}
+use mathlib.Core.List.{List}
 use native.Mathlib.Decide.{dec_lt}
 use native.Mathlib.Omega.{arith}
 use lib.ListN.{length, take, drop, get_or, length-take, length-drop}
 use lib.Seq.{take-add, take_all, length-take-le}
 use Rattle.little.specs.Little.{Bytes}
 use Rattle.little.proofs.Laws.{take_bytes, drop_bytes}
-use Rattle.word.specs.Words.{keys, values, words, upper, same, first_where}
-use Rattle.word.specs.Lookup.{stems, nodes, node_of, marked, keyed, place_in, next_of}
+use Rattle.word.specs.Words.{upper}
+use Rattle.word.specs.Lookup.{node_of, marked, next_of}
 use Rattle.word.proofs.Words.{upper_at, raised_small}
 use Rattle.word.proofs.Lead.{Ahead, leads, no_node}
 
@@ -69,9 +69,3 @@ module _ (u : List ℕ) (at node : ℕ) (l : Led u at node) (h : at < length u) 
         | yes p ↦ let s : stop ≡ 6 * (l.q + 1) = omega (arith, l.whole h) in no_node u (l.q + 1) (omega arith) (omega arith) (rw s at y)
         | no n ↦ rw (take_all stop u (omega arith)) at y
       ]
-
--- bytes that are one stretch or none
-pub alone : (u : List ℕ) → Bytes u → length u ≤ 6 → next_of (0 + 256 * marked u) ≡ node_of u
-unfolding keys values words same first_where stems nodes node_of keyed marked place_in next_of
-alone [] bs h = refl
-alone (b ∷ u) bs h = leads [] (b ∷ u) (record { q = 0; whole = refl; some = omega arith; short = h; bytes = bs; begun = λ z. refl })

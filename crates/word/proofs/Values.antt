@@ -1,68 +1,46 @@
--- The place of a value in a list: one step over two numbers, and the end; and the lists of the kinds.
-use Prim.Native.Nat.{ℕ, suc, ◌+◌, ◌≤◌, ◌<◌}
+-- Values as pairs of numbers, and as the list of their numbers: the place of a value, and what stands at a place.
+use Prim.Native.Nat.{ℕ, zero, suc, ◌+◌, ◌*◌, ◌<◌}
 use mathlib.Core.Path.{◌≡◌, refl, ap, ◌∙◌}
-use mathlib.Core.Bool.{true, false, ◌&&◌}
-use mathlib.Core.List.{List, [], ◌∷◌, map}
-use native.Mathlib.Numerals.{add-one, add-two}
-use native.Mathlib.Decide.{dec_lt}
+use mathlib.Core.Bool.{Bool, true, false, cond}
+use mathlib.Core.List.{List, [], ◌∷◌}
 use native.Mathlib.Omega.{arith}
-use lib.Dec.{eqb}
-use borrow.Author.Tests.{ne_eqb}
-use lib.ListN.{length, drop, get_or, drop_of_length-le}
-use lib.Seq.{drop-cons}
-use Rattle.word.specs.Codes.{Valued, kind_values, values_in, values_of, place_of, code_of}
-use Rattle.word.proofs.Steps.{Nested, Apart, apart}
+use native.Mathlib.Numerals.{add-one}
+use lib.ListN.{length, get_or}
+use Rattle.std.specs.declared.option.Option.{Option}
+use Rattle.std.specs.declared.option.Option.TheVariants.{Some, None}
+use Rattle.std.specs.List.{position, position_from}
+use Rattle.std.proofs.lemmas.Iterator.Adapters.{position_from-zero}
+use Rattle.word.specs.Codes.{is, flat, place_of}
 
-module _ (n : ℕ) (l : List ℕ) (i first second : ℕ) where
-  pairs : i + 1 < length l → drop i l ≡ get_or l i 0 ∷ get_or l (i + 1) 0 ∷ drop (i + 2) l
-  pairs h = drop-cons l i 0 (omega arith) ∙ rw (add-one, add-two) (ap (◌∷◌ (get_or l i 0)) (drop-cons l (suc i) 0 (omega arith)))
+-- the code of a place
+abbrev pub code : Option ℕ → ℕ
+code None = 0
+code (Some i) = i + 1
 
-  pub here : i + 1 < length l → (eqb (get_or l i 0) first && eqb (get_or l (i + 1) 0) second) ≡ true → place_of n (drop i l) first second ≡ n
-  unfolding place_of
-  here h e = rw (pairs h, e)
+counted : (first second i : ℕ) (l : List (ℕ × ℕ)) → code (position_from (is first second) i l) ≡ place_of (suc i) (flat l) first second
+unfolding place_of
+counted first second i [] = refl
+counted first second i (v ∷ l) = go (is first second v) (counted first second (suc i) l)
+  where
+    go : (b : Bool) → code (position_from (is first second) (suc i) l) ≡ place_of (suc (suc i)) (flat l) first second
+        → code (cond {A = Option ℕ} b (Some i) (position_from (is first second) (i + 1) l)) ≡ cond b (suc i) (place_of (suc (suc i)) (flat l) first second)
+    go true ih = add-one i
+    go false ih = rw (add-one i) ih
 
-  pub later : i + 1 < length l → (eqb (get_or l i 0) first && eqb (get_or l (i + 1) 0) second) ≡ false
-      → place_of n (drop i l) first second ≡ place_of (n + 1) (drop (i + 2) l) first second
-  unfolding place_of
-  later h e = rw (pairs h, e, add-one n, place_of)
+pub coded : (first second : ℕ) (l : List (ℕ × ℕ)) → code (position (is first second) l) ≡ place_of 1 (flat l) first second
+coded first second l = ap code (position_from-zero (is first second) l) ∙ counted first second 0 l
 
-  pub nowhere : length l ≤ i + 1 → place_of n (drop i l) first second ≡ 0
-  unfolding place_of
-  nowhere h = elim (dec_lt i (length l)) [
-    | yes p ↦ rw (drop-cons l i 0 p, drop_of_length-le l {i = suc i} (omega arith))
-    | no q ↦ rw (drop_of_length-le l {i = i} (omega arith))
-  ]
+-- the two numbers at a place
+pub pair_at : (i : ℕ) (l : List (ℕ × ℕ)) → i < length l
+    → ((get_or l i (0, 0)).0 ≡ get_or (flat l) (2 * i) 0) × ((get_or l i (0, 0)).1 ≡ get_or (flat l) (2 * i + 1) 0)
+pair_at i [] h = absurd (omega arith)
+pair_at zero (v ∷ l) h = (refl, refl)
+pair_at (suc i) (v ∷ l) h =
+    let r = pair_at i l (omega arith) in
+    let e : 2 * suc i ≡ suc (suc (2 * i)) = omega arith in
+    let f : suc (suc (2 * i)) + 1 ≡ suc (suc (2 * i + 1)) = omega arith in
+    rw (e, f) r
 
--- a place in the list of the kind is the code
-pub at_kind : {kind : ℕ} (k first second : ℕ) {l : List ℕ} {r : ℕ} → kind ≡ k → values_of k ≡ l → r ≡ place_of 1 l first second → r ≡ code_of kind first second
-unfolding code_of
-at_kind k first second e q h = h ∙ rw (e, q)
-
--- an entry of the list of the kind
-pub at_list : {kind : ℕ} (k i : ℕ) {l : List ℕ} {r : ℕ} → kind ≡ k → values_of k ≡ l → r ≡ get_or l i 0 → r ≡ get_or (values_of kind) i 0
-at_list k i e q h = h ∙ rw (e, q)
-
--- the kinds of a table of values
-abbrev kinds_of : List Valued → List ℕ
-kinds_of = map (λ r. r.kind)
-
--- a kind that the table lacks has no list, so it has no code and no entry
-no_list : (rs : List Valued) (kind : ℕ) → Apart kind (kinds_of rs) → values_in rs kind ≡ []
-unfolding values_in
-no_list [] kind h = refl
-no_list (r ∷ rs) kind h = rw (ne_eqb kind r.kind h.0) (no_list rs kind h.1)
-
--- the kind is none of the table of all values, in the form in which a `match` says so
-abbrev Unlisted : ℕ → Type 0
-Unlisted kind = Nested kind (kinds_of kind_values) (Unit {0})
-
-unlisted : (kind : ℕ) → Unlisted kind → values_of kind ≡ []
-unfolding values_of
-unlisted kind h = no_list kind_values kind (apart kind (kinds_of kind_values) (Unit {0}) h).1
-
-pub no_kind : (kind first second : ℕ) → Unlisted kind → 0 ≡ code_of kind first second
-unfolding place_of code_of
-no_kind kind first second h = rw (unlisted kind h)
-
-pub no_entry : (kind i : ℕ) → Unlisted kind → 0 ≡ get_or (values_of kind) i 0
-no_entry kind i h = rw (unlisted kind h)
+pub flat_length : (l : List (ℕ × ℕ)) → length (flat l) ≡ 2 * length l
+flat_length [] = refl
+flat_length (v ∷ l) = omega (arith, flat_length l)

@@ -1,5 +1,5 @@
 -- The codes of the value words: for each kind of record its words in order, the first with code 1.
-use Rattle.std.specs.Prelude.{ℕ, suc, cond, ◌&&◌, eqb}
+use Rattle.std.specs.Prelude.{ℕ, suc, Bool, cond, ◌&&◌, eqb}
 use Prim.Native.String.{String}
 use mathlib.Core.List.{List, [], ◌∷◌, ◌++◌, foldr}
 use Rattle.record.specs.Kinds.{NAMESCASESENSITIVE, NOWIREEXTENSIONATPIN, SITE_CLASS, SYMMETRY_WORD, MACRO_CLASS, DIRECTION, USE, SHAPE, ANTENNAMODEL, ANTENNA, PORT_CLASS, LAYER_OPTION}
@@ -79,6 +79,15 @@ values_in (r ∷ rs) k = cond (eqb k r.kind) (numbers r.values) (values_in rs k)
 
 unfoldable pub values_of : ℕ → List ℕ
 values_of kind = values_in kind_values kind
+
+-- pairs of numbers, one after the other
+abbrev pub flat : List (ℕ × ℕ) → List ℕ
+flat [] = []
+flat (v ∷ vs) = v.0 ∷ v.1 ∷ flat vs
+
+-- whether a pair is that of two words
+abbrev pub is : ℕ → ℕ → ℕ × ℕ → Bool
+is first second v = eqb v.0 first && eqb v.1 second
 
 -- the place of a value in a list, counted from n on; 0 where it is not there
 unfoldable pub place_of : ℕ → List ℕ → ℕ → ℕ → ℕ

@@ -1,8 +1,10 @@
--- Inner machinery, which nobody has to believe: the letters of a word where it has at most eight, or nine to sixteen; else none.
-use Rattle.std.specs.Prelude.{ℕ, cond, ◌&&◌, List, [], leb, length}
+-- Inner machinery, which nobody has to believe: the letters of a word as the code keeps them, how many and eight at a time as numbers.
+use Rattle.std.specs.Prelude.{ℕ, List, [], ◌∷◌, length, take, drop}
+use Rattle.little.specs.Little.{number}
+use Rattle.word.specs.declared.spelling.Letters.{Letters}
 
-abbrev pub short : List ℕ → List ℕ
-short s = cond (leb (length s) 8) s []
+abbrev pub eights_of : List ℕ → List ℕ
+eights_of s = number (take 8 s) ∷ number (take 8 (drop 8 s)) ∷ number (take 8 (drop 16 s)) ∷ number (take 8 (drop 24 s)) ∷ []
 
-abbrev pub long : List ℕ → List ℕ
-long s = cond (leb 9 (length s) && leb (length s) 16) s []
+abbrev pub letters_of : List ℕ → Letters
+letters_of s = record { 0 = length s; 1 = eights_of s }

@@ -1,9 +1,9 @@
 -- Inner machinery, which nobody has to believe: how a word is found by its bytes, six at a time. A word, or the beginning of one, is a
 -- node, and the next six bytes lead from node to node.
-use Rattle.std.specs.Prelude.{ℕ, suc, ◌+◌, ◌-◌, ◌*◌, ◌/◌, Bool, cond, List, [], ◌∷◌, ◌++◌, map, eqb, length, take, drop}
+use Rattle.std.specs.Prelude.{ℕ, suc, ◌+◌, ◌-◌, ◌*◌, ◌/◌, cond, List, [], ◌∷◌, ◌++◌, map, eqb, length, take, drop}
 use Prim.Native.String.{String}
 use Rattle.text.specs.Text.{bytes}
-use Rattle.word.specs.Words.{words, upper, same, first_where}
+use Rattle.word.specs.Words.{words, same, first_where}
 
 -- the beginnings of words, of 6, 12, 18 or 24 bytes, that are no words themselves
 unfoldable pub stems : List String
@@ -33,10 +33,6 @@ node_of v = first_where (same v) 1 nodes
 unfoldable pub marked : List ℕ → ℕ
 marked [] = 1
 marked (b ∷ c) = b + 256 * marked c
-
--- bytes in upper case, or as they are written
-unfoldable pub cased : Bool → List ℕ → List ℕ
-cased raising c = cond raising (upper c) c
 
 -- how many bytes stand before a node's last stretch of at most six
 unfoldable pub stretch : List ℕ → ℕ

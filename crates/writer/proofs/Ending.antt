@@ -9,6 +9,7 @@ use Rattle.word.proofs.Words.{both}
 use Rattle.grammar.specs.Engine.{Frame}
 use Rattle.grammar.specs.Turns as T
 use Rattle.rows.specs.Packed.{block_of}
+use Rattle.parser.specs.declared.open.Frame.{Frame as Around}
 use Rattle.parser.specs.Kept.{frame_of}
 use Rattle.reader.specs.declared.open.Open.{Open}
 use Rattle.reader.specs.Open.{frames_in, blocks_of, Ranked}
@@ -18,29 +19,29 @@ use Rattle.render.specs.Pieces.{Piece, text}
 use Rattle.render.specs.Plain.{Plain}
 use Rattle.render.specs.Lines.{owns, closing, end_all, pieces, after}
 use Rattle.render.specs.Fit.{may_end, comes, admits}
-use Rattle.lines.specs.Put.{greatest, Put}
-use Rattle.lines.proofs.Laws.{put_none, put_as}
+use Rattle.lines.specs.declared.page.Page.{Page}
+use Rattle.lines.specs.Put.{Puts}
+use Rattle.lines.proofs.Laws.{puts_none, puts_as}
 use Rattle.lines.proofs.Pieced.{pieces_then}
-use Rattle.writer.specs.declared.pen.Pen.{Pen}
 use Rattle.writer.specs.Penned.{frames_of, Ended}
 
-pub nothing_put : {out : List ℕ} {at : ℕ} → at ≤ greatest → Put out at (text []) at out
+pub nothing_put : (p : Page) → Puts p p (text [])
 unfolding text
-nothing_put h = put_none h
+nothing_put p = puts_none p
 
 -- no more blocks are around another than the array has room for
-pub shallow : (s : List ℕ) (o : Open) (outer : List ℕ) → Ranked (frames_of s o outer) → o.depth ≤ 5
+pub shallow : (s : List ℕ) (o : Open) (outer : List Around) → Ranked (frames_of s o outer) → o.depth ≤ 5
 shallow s o outer h = omega (arith, h.0, rank_most (block_of o.inner.block), frames_length s o.depth outer)
 
 -- the innermost block as it ends
-abbrev pub closed : List ℕ → Open → List ℕ → List ℕ
+abbrev pub closed : List ℕ → Open → List Around → List ℕ
 closed s o outer = text (closing (frame_of s o.inner) (frames_in s o.depth outer))
 
 -- the open blocks then
-abbrev pub Left : List ℕ → Open → List ℕ → Open → Type 0
+abbrev pub Left : List ℕ → Open → List Around → Open → Type 0
 Left s o outer q = blocks_of s q outer ≡ T.state o.version (frames_in s o.depth outer)
 
-module _ (s : List ℕ) (o : Open) (outer : List ℕ) (q : Open) (l : Left s o outer q) where
+module _ (s : List ℕ) (o : Open) (outer : List Around) (q : Open) (l : Left s o outer q) where
   around_it : frames_of s q outer ≡ frames_in s o.depth outer
   around_it = ap (λ t. t.blocks) l
 
@@ -52,23 +53,21 @@ module _ (s : List ℕ) (o : Open) (outer : List ℕ) (q : Open) (l : Left s o o
 
 -- UP TO THE OWNER OF A RECORD
 
-module _ (s : List ℕ) (outer : List ℕ) (r : Plain) where
-  pub ended_none : (p : Pen) (out : List ℕ) → p.at ≤ greatest → Ranked (frames_of s p.«open» outer)
-      → admits p.«open».version (frames_of s p.«open» outer) r ≡ true → Ended s p.«open» outer r out p.at p out
-  ended_none p out h k a = record { ends = []; put = nothing_put h; version = refl; rest = refl; state = refl; admitted = a; ranked = k }
+module _ (s : List ℕ) (outer : List Around) (r : Plain) where
+  pub ended_none : (o : Open) (p : Page) → Ranked (frames_of s o outer) → admits o.version (frames_of s o outer) r ≡ true → Ended s o outer r p o p
+  ended_none o p k a = record { ends = []; put = nothing_put p; version = refl; rest = refl; state = refl; admitted = a; ranked = k }
 
   some_around : (v : ℕ) (fs : List (Frame ℕ)) → admits v fs r ≡ true → 0 < length fs
   unfolding admits
   some_around v [] h = absurd (false≢true h)
   some_around v (f ∷ fs) h = omega arith
 
-  module _ (o : Open) (out : List ℕ) (at : ℕ) (p : Pen) (exit : List ℕ) (e : Ended s o outer r out at p exit)
-      (foreign : owns (frame_of s p.«open».inner) r ≡ false) where
+  module _ (o : Open) (p : Page) (at : Open) (q : Page) (e : Ended s o outer r p at q) (foreign : owns (frame_of s at.inner) r ≡ false) where
     abbrev f : Frame ℕ
-    f = frame_of s p.«open».inner
+    f = frame_of s at.inner
 
     abbrev fs : List (Frame ℕ)
-    fs = frames_in s p.«open».depth outer
+    fs = frames_in s at.depth outer
 
     may_come : admits o.version fs r ≡ true
     unfolding admits
@@ -77,17 +76,16 @@ module _ (s : List ℕ) (outer : List ℕ) (r : Plain) where
         (both (may_end f (comes fs r)) (admits o.version fs r) a).1
 
     -- a block that does not have the record is not the last
-    pub ended_inner : (0 < p.«open».depth) × (p.«open».depth < 6)
+    pub ended_inner : (0 < at.depth) × (at.depth < 6)
     ended_inner = (
-      omega (arith, some_around o.version fs may_come, frames_length s p.«open».depth outer),
-      omega (arith, shallow s p.«open» outer e.ranked),
+      omega (arith, some_around o.version fs may_come, frames_length s at.depth outer),
+      omega (arith, shallow s at outer e.ranked),
     )
 
-    pub ended_more : (to : ℕ) (laid : List ℕ) → Put exit p.at (closed s p.«open» outer) to laid → (q : Open) → Left s p.«open» outer q
-        → Ended s o outer r out at (record { «open» = q; at = to }) laid
+    pub ended_more : (to : Page) → Puts q to (closed s at outer) → (next : Open) → Left s at outer next → Ended s o outer r p next to
     unfolding pieces after
-    ended_more to laid w q l =
-        let g : frames_of s q outer ≡ fs = around_it s p.«open» outer q l in
+    ended_more to w next l =
+        let g : frames_of s next outer ≡ fs = around_it s at outer next l in
         record {
           ends = e.ends ++ closing f fs;
           put = pieces_then e.ends (closing f fs) e.put w;
@@ -95,45 +93,44 @@ module _ (s : List ℕ) (outer : List ℕ) (r : Plain) where
           rest = e.rest ∙ rw foreign (sym (append_assoc e.ends (closing f fs) (pieces fs r))) ∙ ap (λ gs. (e.ends ++ closing f fs) ++ pieces gs r) (sym g);
           state = e.state ∙ rw foreign (ap (λ gs. after o.version gs r) (sym g));
           admitted = ap (λ gs. admits o.version gs r) g ∙ may_come;
-          ranked = left_ranked s p.«open» outer q l e.ranked;
+          ranked = left_ranked s at outer next l e.ranked;
         }
 
 -- ALL BLOCKS
 
-pub record Closed (s : List ℕ) (o : Open) (outer : List ℕ) (out : List ℕ) (at : ℕ) (p : Pen) (exit : List ℕ) : Type 0 where
+pub record Closed (s : List ℕ) (o : Open) (outer : List Around) (p : Page) (at : Open) (q : Page) : Type 0 where
   pub ends : List Piece
-  pub put : Put out at (text ends) p.at exit
-  pub rest : end_all (frames_of s o outer) ≡ ends ++ end_all (frames_of s p.«open» outer)
-  pub ranked : Ranked (frames_of s p.«open» outer)
+  pub put : Puts p q (text ends)
+  pub rest : end_all (frames_of s o outer) ≡ ends ++ end_all (frames_of s at outer)
+  pub ranked : Ranked (frames_of s at outer)
 
-none_around : (s : List ℕ) (d : ℕ) (outer : List ℕ) → d ≡ 0 → frames_in s d outer ≡ []
+none_around : (s : List ℕ) (d : ℕ) (outer : List Around) → d ≡ 0 → frames_in s d outer ≡ []
 unfolding frames_in
 none_around s d outer e = rw e
 
-module _ (s : List ℕ) (outer : List ℕ) where
-  pub closed_none : (p : Pen) (out : List ℕ) → p.at ≤ greatest → Ranked (frames_of s p.«open» outer) → Closed s p.«open» outer out p.at p out
-  closed_none p out h k = record { ends = []; put = nothing_put h; rest = refl; ranked = k }
+module _ (s : List ℕ) (outer : List Around) where
+  pub closed_none : (o : Open) (p : Page) → Ranked (frames_of s o outer) → Closed s o outer p o p
+  closed_none o p k = record { ends = []; put = nothing_put p; rest = refl; ranked = k }
 
-  module _ (o : Open) (out : List ℕ) (at : ℕ) (p : Pen) (exit : List ℕ) (c : Closed s o outer out at p exit)
-      (to : ℕ) (laid : List ℕ) (w : Put exit p.at (closed s p.«open» outer) to laid) where
+  module _ (o : Open) (p : Page) (at : Open) (q : Page) (c : Closed s o outer p at q) (to : Page) (w : Puts q to (closed s at outer)) where
     abbrev g : Frame ℕ
-    g = frame_of s p.«open».inner
+    g = frame_of s at.inner
 
     abbrev gs : List (Frame ℕ)
-    gs = frames_in s p.«open».depth outer
+    gs = frames_in s at.depth outer
 
-    pub closed_more : (q : Open) → Left s p.«open» outer q → Closed s o outer out at (record { «open» = q; at = to }) laid
+    pub closed_more : (next : Open) → Left s at outer next → Closed s o outer p next to
     unfolding end_all
-    closed_more q l = record {
+    closed_more next l = record {
       ends = c.ends ++ closing g gs;
       put = pieces_then c.ends (closing g gs) c.put w;
-      rest = c.rest ∙ sym (append_assoc c.ends (closing g gs) (end_all gs)) ∙ ap (λ hs. (c.ends ++ closing g gs) ++ end_all hs) (sym (around_it s p.«open» outer q l));
-      ranked = left_ranked s p.«open» outer q l c.ranked;
+      rest = c.rest ∙ sym (append_assoc c.ends (closing g gs) (end_all gs)) ∙ ap (λ hs. (c.ends ++ closing g gs) ++ end_all hs) (sym (around_it s at outer next l));
+      ranked = left_ranked s at outer next l c.ranked;
     }
 
-    pub closed_last : p.«open».depth ≡ 0 → Put out at (text (end_all (frames_of s o outer))) to laid
+    pub closed_last : at.depth ≡ 0 → Puts p to (text (end_all (frames_of s o outer)))
     unfolding end_all
     closed_last d =
-        let none : gs ≡ [] = none_around s p.«open».depth outer d in
+        let none : gs ≡ [] = none_around s at.depth outer d in
         let z : c.ends ++ closing g gs ≡ end_all (frames_of s o outer) = sym (c.rest ∙ rw none (ap (◌++◌ c.ends) (append-nil (closing g [])))) in
-        put_as (ap text z) (pieces_then c.ends (closing g gs) c.put w)
+        puts_as (ap text z) (pieces_then c.ends (closing g gs) c.put w)

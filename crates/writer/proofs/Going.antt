@@ -1,7 +1,6 @@
 -- Stretches in a row: what is read and written so far, and what is still to come, make up one reading and its lines.
 use Prim.Native.Nat.{ℕ, ◌/◌, ◌≤◌}
-use native.Mathlib.Omega.{arith}
-use mathlib.Core.Path.{◌≡◌, refl, sym, ap, ◌∙◌}
+use mathlib.Core.Path.{◌≡◌, sym, ap, ◌∙◌}
 use mathlib.Core.Bool.{true}
 use mathlib.Core.List.{List, [], ◌++◌, map, append-nil}
 use lib.ListN.{length}
@@ -11,7 +10,9 @@ use Rattle.rowfile.specs.Rows.{front as rows_front}
 use Rattle.file.specs.File.{front}
 use Rattle.grammar.specs.Reading.{records, refusal_of}
 use Rattle.reader.specs.declared.open.State.{State}
-use Rattle.reader.specs.Open.{numbers_of, blocks_of, state_of}
+use Rattle.parser.specs.declared.open.Frame.{Frame as Around}
+use Rattle.reader.specs.declared.open.Open.{Open}
+use Rattle.reader.specs.Open.{blocks_of, state_of}
 use Rattle.reader.specs.Passed.{Sound, read_from, follow, stored_all, Further}
 use Rattle.checker.specs.Passing.{Fit}
 use Rattle.checker.proofs.Following.{clash, same_records, follow_none, follow_follow, parted, fit_left, fit_right}
@@ -19,34 +20,31 @@ use Rattle.render.specs.Pieces.{text}
 use Rattle.render.specs.Plain.{bare}
 use Rattle.render.specs.Lines.{lines}
 use Rattle.render.specs.Fit.{fit_from}
-use Rattle.lines.specs.Put.{Put}
-use Rattle.lines.proofs.Laws.{put_as}
-use Rattle.writer.specs.declared.pen.Pen.{Pen}
-use Rattle.writer.specs.Penned.{admits_all, Wrote, Ready}
+use Rattle.lines.specs.declared.page.Page.{Page}
+use Rattle.lines.specs.Put.{Puts}
+use Rattle.lines.proofs.Laws.{puts_as}
+use Rattle.writer.specs.Penned.{admits_all, May, Wrote, Ready}
 use Rattle.writer.proofs.Writing.{fits_first, wrote_then, wrote_lines}
 use Rattle.writer.proofs.Stretching.{bared_append, front_stored, wrote_none}
 
 -- the records given so far are written
-pub record So (s : List ℕ) (start o : State) (out : List ℕ) (pen : Pen) (outer exit : List ℕ) : Type 0 where
-  pub sound : Sound s o
+pub record So (s : List ℕ) (start st : State) (p : Page) (o : Open) (outer : List Around) (q : Page) : Type 0 where
+  pub sound : Sound s st
   pub given : List Record
-  pub rest : read_from s start ≡ follow given (read_from s o)
-  pub wrote : Wrote s (state_of s start) (map (bare s) given) out 0 pen outer exit
+  pub rest : read_from s start ≡ follow given (read_from s st)
+  pub wrote : Wrote s (state_of s start) (map (bare s) given) p o outer q
 
-pub so_start : (s : List ℕ) (start : State) (out outer : List ℕ) → Sound s start → outer ≡ numbers_of start.outer
-    → So s start start out (record { «open» = start.«open»; at = 0 }) outer out
+pub so_start : (s : List ℕ) (start : State) (p : Page) → Sound s start → So s start start p start.«open» start.outer p
 unfolding rows_front
-so_start s start out outer d e =
-    let pen : Pen = record { «open» = start.«open»; at = 0 } in
-    rw e (record { sound = d; given = []; rest = follow_none (read_from s start); wrote = wrote_none s [] pen (numbers_of start.outer) out (omega arith) (refl, d) })
+so_start s start p d = record { sound = d; given = []; rest = follow_none (read_from s start); wrote = wrote_none s [] p start.«open» start.outer d }
 
 module _ (s : List ℕ) (start : State) (rs : List Record) (ready : Ready s start rs)
-    (o : State) (out : List ℕ) (pen : Pen) (outer mid : List ℕ) (so : So s start o out pen outer mid) where
-  -- what is still to come fits where the pen is
+    (o : State) (p : Page) (at : Open) (outer : List Around) (mid : Page) (so : So s start o p at outer mid) where
+  -- what is still to come fits where the page is
   pub record Onward (qs : List Record) : Type 0 where
     pub gives : read_from s o ≡ records qs
     pub fit : Fit qs
-    pub fits : fit_from (blocks_of s pen.«open» outer) (map (bare s) qs) ≡ true
+    pub fits : fit_from (blocks_of s at outer) (map (bare s) qs) ≡ true
 
   onward : (qs : List Record) × Onward qs
   onward =
@@ -68,9 +66,9 @@ module _ (s : List ℕ) (start : State) (rs : List Record) (ready : Ready s star
     in_front : front c w' ≡ g
     in_front = rw laid (front_stored g w c count room (fit_left g ps (rw z at on.fit)))
 
-    admitted : admits_all (blocks_of s pen.«open» outer) (map (bare s) (front c w')) ≡ true
+    admitted : admits_all (blocks_of s at outer) (map (bare s) (front c w')) ≡ true
     admitted =
-        let t = blocks_of s pen.«open» outer in
+        let t = blocks_of s at outer in
         let f : fit_from t (map (bare s) g ++ map (bare s) ps) ≡ true = ap (fit_from t) (sym (ap (map (bare s)) z ∙ bared_append s g ps)) ∙ on.fits in
         rw in_front (fits_first t (map (bare s) g) (map (bare s) ps) f).0
 
@@ -79,11 +77,14 @@ module _ (s : List ℕ) (start : State) (rs : List Record) (ready : Ready s star
     more : (qs : List Record) × Onward qs × ((ps : List Record) × (read_from s to ≡ records ps) × (qs ≡ f.given ++ ps))
     more = let (qs, on) = onward in (qs, on, parted f.given qs (read_from s to) (sym on.gives ∙ f.rest))
 
-    pub next_admitted : admits_all (blocks_of s pen.«open» outer) (map (bare s) (front c w')) ≡ true
+    next_admitted : admits_all (blocks_of s at outer) (map (bare s) (front c w')) ≡ true
     next_admitted = let (qs, on, (ps, e, z)) = more in admitted f.given ps w w' c f.count f.laid room qs on z
 
-    pub so_next : (q : Pen) (outer' exit : List ℕ) → Wrote s (blocks_of s pen.«open» outer) (map (bare s) (front c w')) mid pen.at q outer' exit → So s start to out q outer' exit
-    so_next q outer' exit a =
+    pub next_may : May s at outer (map (bare s) (front c w'))
+    next_may = (so.wrote.ranked, next_admitted)
+
+    pub so_next : (next : Open) (outer' : List Around) (q : Page) → Wrote s (blocks_of s at outer) (map (bare s) (front c w')) mid next outer' q → So s start to p next outer' q
+    so_next next outer' q a =
         let (qs, on, (ps, e, z)) = more in
         let h = in_front f.given ps w w' c f.count f.laid room qs on z in
         record {
@@ -98,16 +99,19 @@ module _ (s : List ℕ) (start : State) (rs : List Record) (ready : Ready s star
     last : (qs : List Record) × Onward qs × (qs ≡ g ++ [])
     last = let (qs, on) = onward in (qs, on, same_records qs g (sym on.gives ∙ e) ∙ sym (append-nil g))
 
-    pub last_admitted : admits_all (blocks_of s pen.«open» outer) (map (bare s) (front c w')) ≡ true
+    last_admitted : admits_all (blocks_of s at outer) (map (bare s) (front c w')) ≡ true
     last_admitted = let (qs, on, z) = last in admitted g [] w w' c count laid room qs on z
 
-    pub so_last : (n : ℕ) (exit : List ℕ) → Put mid pen.at (text (lines (blocks_of s pen.«open» outer) (map (bare s) (front c w')))) n exit
-        → (xs : List Record) → read_from s start ≡ records xs → Put out 0 (text (lines (state_of s start) (map (bare s) xs))) n exit
-    so_last n exit a xs x =
+    pub last_may : May s at outer (map (bare s) (front c w'))
+    last_may = (so.wrote.ranked, last_admitted)
+
+    pub so_last : (q : Page) → Puts mid q (text (lines (blocks_of s at outer) (map (bare s) (front c w'))))
+        → (xs : List Record) → read_from s start ≡ records xs → Puts p q (text (lines (state_of s start) (map (bare s) xs)))
+    so_last q a xs x =
         let (qs, on, z) = last in
         let h = in_front g [] w w' c count laid room qs on z in
         let k : so.given ++ g ≡ xs = same_records (so.given ++ g) xs (sym (ap (follow so.given) e) ∙ sym so.rest ∙ x) in
-        put_as (ap (λ l. text (lines (state_of s start) l)) (sym (bared_append s so.given g) ∙ ap (map (bare s)) k))
+        puts_as (ap (λ l. text (lines (state_of s start) l)) (sym (bared_append s so.given g) ∙ ap (map (bare s)) k))
         (wrote_lines (map (bare s) g) so.wrote (rw h at a))
 
   pub so_refused : (f : Refusal) → read_from s o ≡ refusal_of f → ⊥

@@ -8,22 +8,22 @@ use lib.ListN.{length, drop}
 use borrow.Author.Tests.{lt-ltb}
 use Rattle.rowfile.specs.Rows.{front as rows_front}
 use Rattle.rowfile.proofs.Held.{front_append, front_all}
+use Rattle.std.specs.Prelude.{Option, Some, None}
 use Rattle.record.specs.declared.Record.{Record}
 use Rattle.record.specs.Bytes.{decoded}
-use Rattle.file.specs.declared.Found.{Found}
-use Rattle.file.specs.declared.Found.TheVariants.{At, Past}
 use Rattle.file.specs.File.{front, record_at, record_in}
 use Rattle.grammar.specs.Turns as T
-use Rattle.reader.specs.Open.{blocks_of}
+use Rattle.parser.specs.declared.open.Frame.{Frame as Around}
+use Rattle.reader.specs.declared.open.Open.{Open}
+use Rattle.reader.specs.Open.{blocks_of, Ranked}
 use Rattle.reader.specs.Passed.{stored_all}
 use Rattle.verdict.specs.Verdict.{blank}
 use Rattle.checker.specs.Passing.{Fit}
 use Rattle.checker.proofs.Laying.{laid_at}
 use Rattle.render.specs.Plain.{Plain, bare}
 use Rattle.render.specs.Fit.{admits}
-use Rattle.lines.specs.Put.{greatest}
-use Rattle.writer.specs.declared.pen.Pen.{Pen}
-use Rattle.writer.specs.Penned.{pieces_of, after_all, admits_all, frames_of, Stands, Wrote}
+use Rattle.lines.specs.declared.page.Page.{Page}
+use Rattle.writer.specs.Penned.{pieces_of, after_all, admits_all, frames_of, Wrote}
 use Rattle.writer.proofs.Ending.{nothing_put}
 use Rattle.writer.proofs.Writing.{admits_append, admits_first, wrote_then}
 
@@ -53,39 +53,37 @@ front_stored rs w c n h fit = rw (← n) (front_all 36 decoded blank rs (stored_
 
 -- WHAT STANDS AT AN INDEX
 
-module _ (w : List ℕ) (k : ℕ) (h : k < length w / 36) (x : Found) (e : x ≡ record_at w k) where
-  at_index : x ≡ At (record_in w k)
+module _ (w : List ℕ) (k : ℕ) (h : k < length w / 36) (x : Option Record) (e : x ≡ record_at w k) where
+  at_index : x ≡ Some (record_in w k)
   unfolding record_at
   at_index = e ∙ rw (lt-ltb k (length w / 36) h)
 
-  pub the_record : (r : Record) → x ≡ At r → r ≡ record_in w k
-  the_record r q = let z : At r ≡ At (record_in w k) = sym q ∙ at_index in cc
+  pub the_record : (r : Record) → x ≡ Some r → r ≡ record_in w k
+  the_record r q = let z : Some r ≡ Some (record_in w k) = sym q ∙ at_index in cc
 
-  pub never_past : x ≡ Past → ⊥
-  never_past q = let a : At (record_in w k) ≡ Past = sym at_index ∙ q in let z : ◌≡◌ {A = ℕ} 0 1 = cc in omega arith
+  pub never_past : x ≡ None → ⊥
+  never_past q = let a : Some (record_in w k) ≡ None = sym at_index ∙ q in let z : ◌≡◌ {A = ℕ} 0 1 = cc in omega arith
 
 -- RECORD BY RECORD
 
 module _ (s : List ℕ) (w : List ℕ) where
-  pub wrote_none : (p : Pen) (outer out : List ℕ) → p.at ≤ greatest → Stands s p.«open» outer
-      → Wrote s (blocks_of s p.«open» outer) (map (bare s) (front 0 w)) out p.at p outer out
+  pub wrote_none : (p : Page) (o : Open) (outer : List Around) → Ranked (frames_of s o outer) → Wrote s (blocks_of s o outer) (map (bare s) (front 0 w)) p o outer p
   unfolding rows_front pieces_of after_all
-  wrote_none p outer out h k = record { put = nothing_put h; state = refl; stands = k }
+  wrote_none p o outer k = record { put = nothing_put p; state = refl; ranked = k }
 
-  module _ (t : T.State ℕ) (k : ℕ) (out : List ℕ) (at : ℕ) (p : Pen) (outer mid : List ℕ) (a : Wrote s t (map (bare s) (front k w)) out at p outer mid)
+  module _ (t : T.State ℕ) (k : ℕ) (p : Page) (o : Open) (outer : List Around) (mid : Page) (a : Wrote s t (map (bare s) (front k w)) p o outer mid)
       (r : Record) (e : r ≡ record_in w k) where
-    pub next_admitted : (c : ℕ) → k < c → admits_all t (map (bare s) (front c w)) ≡ true
-        → admits p.«open».version (frames_of s p.«open» outer) (bare s r) ≡ true
+    pub next_admitted : (c : ℕ) → k < c → admits_all t (map (bare s) (front c w)) ≡ true → admits o.version (frames_of s o outer) (bare s r) ≡ true
     next_admitted c h d =
         let (rest, z) = front_rest s k c w h in
         let u = admits_append t (map (bare s) (front k w)) (bare s (record_in w k) ∷ rest) (rw z at d) in
         let v = admits_first (after_all t (map (bare s) (front k w))) (bare s (record_in w k)) rest u in
         rw e (subst (λ q. admits q.version q.blocks (bare s (record_in w k)) ≡ true) (sym a.state) v)
 
-    pub wrote_next : (q : Pen) (outer' exit : List ℕ) → Wrote s (blocks_of s p.«open» outer) (bare s r ∷ []) mid p.at q outer' exit
-        → Wrote s t (map (bare s) (front (k + 1) w)) out at q outer' exit
-    wrote_next q outer' exit b = rw (front_more s k w) (wrote_then a (rw (a.state, e) at b))
+    pub wrote_next : (to : Open) (outer' : List Around) (q : Page) → Wrote s (blocks_of s o outer) (bare s r ∷ []) mid to outer' q
+        → Wrote s t (map (bare s) (front (k + 1) w)) p to outer' q
+    wrote_next to outer' q b = rw (front_more s k w) (wrote_then a (rw (a.state, e) at b))
 
-  pub wrote_all : {t : T.State ℕ} (k c : ℕ) {out : List ℕ} {at : ℕ} {p : Pen} {outer exit : List ℕ} → k ≡ c
-      → Wrote s t (map (bare s) (front k w)) out at p outer exit → Wrote s t (map (bare s) (front c w)) out at p outer exit
+  pub wrote_all : {t : T.State ℕ} (k c : ℕ) {p q : Page} {o : Open} {outer : List Around} → k ≡ c
+      → Wrote s t (map (bare s) (front k w)) p o outer q → Wrote s t (map (bare s) (front c w)) p o outer q
   wrote_all k c e a = rw e at a

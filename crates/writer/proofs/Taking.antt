@@ -8,6 +8,7 @@ use mathlib.Core.List.{List, [], ◌∷◌, append-nil}
 use lib.Dec.{eqb, ltb}
 use lib.ListN.{length}
 use borrow.Author.Tests.{eq-eqb, ltb-true}
+use Rattle.std.specs.Prelude.{Option, Some, None}
 use Rattle.word.proofs.Words.{both}
 use Rattle.grammar.specs.Grammar.{Block, Library, Options, Layer, Move, stay, enter, named, version, Body, keyed, worded, options, parts, counted}
 use Rattle.grammar.specs.Table.{body}
@@ -16,6 +17,7 @@ use Rattle.grammar.specs.Turns as T
 use Rattle.grammar.proofs.Blocks.{alike, each_block}
 use Rattle.rows.specs.Packed as P
 use Rattle.rows.specs.Packed.{block_of, form_of, next_of, after_in}
+use Rattle.parser.specs.declared.open.Frame.{Frame as Around}
 use Rattle.parser.specs.Kept.{frame_of}
 use Rattle.reader.specs.declared.open.Open.{Open}
 use Rattle.reader.specs.Open.{frames_in, blocks_of, rank, Ranked}
@@ -24,11 +26,11 @@ use Rattle.render.specs.Pieces.{text}
 use Rattle.render.specs.Plain.{Plain}
 use Rattle.render.specs.Forms.{Form, forms_of, row_forms, forms_in, is_of, form_for}
 use Rattle.render.specs.Lines.{line_end, form_in, settled_by, settling, taken_by, taking, before}
-use Rattle.lines.specs.declared.form.Formed.{Formed}
-use Rattle.lines.specs.declared.form.Formed.TheVariants as F
-use Rattle.lines.specs.Put.{greatest, Put}
+use Rattle.lines.specs.declared.form.Form.{Form as Found}
+use Rattle.lines.specs.declared.page.Page.{Page}
+use Rattle.lines.specs.Put.{Puts}
 use Rattle.lines.specs.Formed.{as_formed}
-use Rattle.lines.proofs.Laws.{put_as}
+use Rattle.lines.proofs.Laws.{puts_as}
 use Rattle.lines.proofs.Pieced.{pieces_then}
 use Rattle.writer.specs.declared.pen.Taken.{Taken}
 use Rattle.writer.specs.Penned.{Settled}
@@ -36,7 +38,7 @@ use Rattle.writer.proofs.Ending.{nothing_put}
 
 -- THE FORM THAT IS FOUND
 
-pub as_found : (b k c : ℕ) (x : Formed) → ((f : Frame ℕ) (p : Plain) → f.block ≡ block_of b → p.kind ≡ k → p.code ≡ c → form_in f p ≡ as_formed k x)
+pub as_found : (b k c : ℕ) (x : Option Found) → ((f : Frame ℕ) (p : Plain) → f.block ≡ block_of b → p.kind ≡ k → p.code ≡ c → form_in f p ≡ as_formed k x)
     → (p : Plain) → k ≡ p.kind → c ≡ p.code → (f : Frame ℕ) → f.block ≡ block_of b → form_in f p ≡ as_formed p.kind x
 as_found b k c x h p e d f q = h f p q (sym e) (sym d) ∙ ap (λ j. as_formed j x) e
 
@@ -92,12 +94,12 @@ module _ (b next : ℕ) (h : P.form_in b ≡ 2) (n : block_of next ≡ after_in 
 -- the options of o have turned into the block `next`, in p
 abbrev pub Turned : List ℕ → Open → ℕ → Open → Type 0
 Turned s o next p =
-    (outer : List ℕ) → (o.inner.block ≡ 0 → ⊥) → (next ≡ 0 → ⊥)
+    (outer : List Around) → (o.inner.block ≡ 0 → ⊥) → (next ≡ 0 → ⊥)
     → blocks_of s p outer ≡ T.state o.version (T.become (block_of next) (frame_of s o.inner) ∷ frames_in s o.depth outer)
 
 module _ (s : List ℕ) (o : Open) (next : ℕ) (h : P.form_in o.inner.block ≡ 2) (n : block_of next ≡ after_in o.inner.block)
     (p : Open) (l : Turned s o next p) where
-  turned_blocks : (outer : List ℕ) → blocks_of s p outer ≡ T.state o.version (T.become (block_of next) (frame_of s o.inner) ∷ frames_in s o.depth outer)
+  turned_blocks : (outer : List Around) → blocks_of s p outer ≡ T.state o.version (T.become (block_of next) (frame_of s o.inner) ∷ frames_in s o.depth outer)
   turned_blocks outer = l outer (not_first o.inner.block next h n) (not_first_then o.inner.block next h n)
 
   turned_inner : frame_of s p.inner ≡ T.become (block_of next) (frame_of s o.inner)
@@ -110,47 +112,45 @@ module _ (s : List ℕ) (o : Open) (next : ℕ) (h : P.form_in o.inner.block ≡
   unfolding turns P.form_in form_of
   fewer_turns = rw (turned_layer, eq-eqb _ _ h) (omega arith)
 
-module _ (s : List ℕ) (o : Open) (r : Plain) (out : List ℕ) (at : ℕ) (x : Formed) where
+module _ (s : List ℕ) (o : Open) (r : Plain) (p : Page) (x : Option Found) where
   abbrev inner : Frame ℕ
   inner = frame_of s o.inner
 
-  as_it_was : at ≤ greatest → taken_by inner (form_in inner r) ≡ inner → before inner (form_in inner r) ≡ [] → form_in inner r ≡ as_formed r.kind x
-      → Settled s o r out at (record { «open» = o; at = at; formed = x }) out
-  as_it_was h e d q = record {
-    put = rw d (nothing_put h);
+  as_it_was : taken_by inner (form_in inner r) ≡ inner → before inner (form_in inner r) ≡ [] → form_in inner r ≡ as_formed r.kind x
+      → Settled s o r p (record { «open» = o; form = x }) p
+  as_it_was e d q = record {
+    put = rw d (nothing_put p);
     blocks = λ outer. ap (λ f. T.state o.version (f ∷ frames_in s o.depth outer)) (sym e);
     formed = ap (λ f. form_in f r) e ∙ q;
   }
 
-  pub settled_formed : at ≤ greatest → (w : _) (row : _) → x ≡ F.In w row → form_in inner r ≡ as_formed r.kind x
-      → Settled s o r out at (record { «open» = o; at = at; formed = x }) out
-  settled_formed h w row e q = let z : form_in inner r ≡ as_formed r.kind (F.In w row) = rw e at q in as_it_was h (rw z) (rw z) q
+  pub settled_formed : (f : Found) → x ≡ Some f → form_in inner r ≡ as_formed r.kind x → Settled s o r p (record { «open» = o; form = x }) p
+  settled_formed f e q = let z : form_in inner r ≡ as_formed r.kind (Some f) = rw e at q in as_it_was (rw z) (rw z) q
 
-  pub settled_other : at ≤ greatest → x ≡ F.None → (P.form_in o.inner.block ≡ 2 → ⊥) → form_in inner r ≡ as_formed r.kind x
-      → Settled s o r out at (record { «open» = o; at = at; formed = x }) out
+  pub settled_other : x ≡ None → (P.form_in o.inner.block ≡ 2 → ⊥) → form_in inner r ≡ as_formed r.kind x → Settled s o r p (record { «open» = o; form = x }) p
   unfolding P.form_in
-  settled_other h e b q =
+  settled_other e b q =
       let z : form_in inner r ≡ none = rw e at q in
       let y = steady inner b in
-      as_it_was h (rw z y.0) (rw z y.1) q
+      as_it_was (rw z y.0) (rw z y.1) q
 
   -- another record ends the line of the options
-  module _ (none-there : x ≡ F.None) (q : form_in inner r ≡ as_formed r.kind x) (next : ℕ)
+  module _ (none-there : x ≡ None) (q : form_in inner r ≡ as_formed r.kind x) (next : ℕ)
       (h : P.form_in o.inner.block ≡ 2) (n : block_of next ≡ after_in o.inner.block) where
     after_them : taking inner r ≡ T.become (block_of next) inner
     after_them =
         let z : form_in inner r ≡ none = rw none-there at q in
         rw (z, the_options o.inner.block next h n, the_layer o.inner.block next h n)
 
-    pub settled_line : (to : ℕ) (exit : List ℕ) → Put out at (text line_end) to exit → (p : Open) → Turned s o next p
-        → (t : Taken) (last : List ℕ) → Settled s p r exit to t last → Settled s o r out at t last
-    settled_line to exit w p l t last k =
+    pub settled_line : (mid : Page) → Puts p mid (text line_end) → (at : Open) → Turned s o next at
+        → (t : Taken) (last : Page) → Settled s at r mid t last → Settled s o r p t last
+    settled_line mid w at l t last k =
         let z : form_in inner r ≡ none = rw none-there at q in
-        let g = layer_steady (frame_of s p.inner) (turned_layer s o next h n p l) (form_in (frame_of s p.inner) r) in
-        let e : taking (frame_of s p.inner) r ≡ taking inner r = g.0 ∙ turned_inner s o next h n p l ∙ sym after_them in
+        let g = layer_steady (frame_of s at.inner) (turned_layer s o next h n at l) (form_in (frame_of s at.inner) r) in
+        let e : taking (frame_of s at.inner) r ≡ taking inner r = g.0 ∙ turned_inner s o next h n at l ∙ sym after_them in
         record {
-          put = rw (z, the_options o.inner.block next h n) (put_as (ap text (append-nil line_end)) (pieces_then line_end [] w (put_as (ap text g.1) k.put)));
-          blocks = λ outer. k.blocks outer ∙ ap (λ f. T.state p.version (f ∷ frames_in s p.depth outer)) g.0 ∙ turned_blocks s o next h n p l outer ∙ ap (λ f. T.state o.version (f ∷ frames_in s o.depth outer)) (sym after_them);
+          put = rw (z, the_options o.inner.block next h n) (puts_as (ap text (append-nil line_end)) (pieces_then line_end [] w (puts_as (ap text g.1) k.put)));
+          blocks = λ outer. k.blocks outer ∙ ap (λ f. T.state at.version (f ∷ frames_in s at.depth outer)) g.0 ∙ turned_blocks s o next h n at l outer ∙ ap (λ f. T.state o.version (f ∷ frames_in s o.depth outer)) (sym after_them);
           formed = ap (λ f. form_in f r) (sym e) ∙ k.formed;
         }
 

@@ -6,10 +6,12 @@ use mathlib.Core.Bool.{true, false≢true}
 use mathlib.Core.List.{List, [], ◌∷◌, ◌++◌, append_assoc, append-nil}
 use lib.ListN.{length}
 use Rattle.record.specs.declared.Record.{Record}
+use Rattle.std.specs.Prelude.{Option, Some, None}
 use Rattle.word.proofs.Words.{both}
 use Rattle.grammar.specs.Engine.{Frame}
 use Rattle.grammar.specs.Turns as T
 use Rattle.rows.specs.Packed.{move_of}
+use Rattle.parser.specs.declared.open.Frame.{Frame as Around}
 use Rattle.parser.specs.Kept.{frame_of}
 use Rattle.reader.specs.declared.open.Open.{Open}
 use Rattle.reader.specs.Open.{frames_in, blocks_of, Pushes, rank, Ranked}
@@ -19,14 +21,13 @@ use Rattle.render.specs.Pieces.{Piece, text}
 use Rattle.render.specs.Plain.{Plain, bare}
 use Rattle.render.specs.Lines.{form_in, taking, before, statement, entered, end_all, pieces, after, lines}
 use Rattle.render.specs.Fit.{admits, fit_from}
-use Rattle.lines.specs.declared.form.Formed.{Formed}
-use Rattle.lines.specs.declared.form.Formed.TheVariants as F
-use Rattle.lines.specs.Put.{Put}
+use Rattle.lines.specs.declared.form.Form.{Form as Found}
+use Rattle.lines.specs.declared.page.Page.{Page}
+use Rattle.lines.specs.Put.{Puts}
 use Rattle.lines.specs.Formed.{as_formed}
 use Rattle.lines.specs.Stated.{stated_in}
-use Rattle.lines.proofs.Laws.{put_as}
+use Rattle.lines.proofs.Laws.{puts_as}
 use Rattle.lines.proofs.Pieced.{pieces_then}
-use Rattle.writer.specs.declared.pen.Pen.{Pen}
 use Rattle.writer.specs.declared.pen.Taken.{Taken}
 use Rattle.writer.specs.Penned.{pieces_of, after_all, admits_all, frames_of, Wrote, Reached, Takes, Settled, move_in, Enters}
 use Rattle.writer.proofs.Ending.{shallow}
@@ -78,28 +79,27 @@ fits_first t (r ∷ rs) qs h =
     let b = fits_first u rs qs a.1 in
     (rw a.0 b.0, b.1)
 
--- THE PEN
+-- THE PAGE
 
-pub wrote_then : {s : List ℕ} {t : T.State ℕ} {rs qs : List Plain} {out mid exit : List ℕ} {at : ℕ} {p q : Pen} {outer outer' : List ℕ}
-    → Wrote s t rs out at p outer mid → Wrote s (after_all t rs) qs mid p.at q outer' exit → Wrote s t (rs ++ qs) out at q outer' exit
+pub wrote_then : {s : List ℕ} {t : T.State ℕ} {rs qs : List Plain} {p mid q : Page} {o to : Open} {outer outer' : List Around}
+    → Wrote s t rs p o outer mid → Wrote s (after_all t rs) qs mid to outer' q → Wrote s t (rs ++ qs) p to outer' q
 wrote_then {t = t} {rs = rs} {qs = qs} a b = record {
-  put = put_as (ap text (sym (pieces_append t rs qs))) (pieces_then (pieces_of t rs) (pieces_of (after_all t rs) qs) a.put b.put);
+  put = puts_as (ap text (sym (pieces_append t rs qs))) (pieces_then (pieces_of t rs) (pieces_of (after_all t rs) qs) a.put b.put);
   state = b.state ∙ sym (after_append t rs qs);
-  stands = b.stands;
+  ranked = b.ranked;
 }
 
 -- the ends after records
-pub wrote_ends : {s : List ℕ} {t : T.State ℕ} {rs : List Plain} {out mid exit : List ℕ} {at n : ℕ} {p : Pen} {outer : List ℕ}
-    → Wrote s t rs out at p outer mid → Put mid p.at (text (end_all (frames_of s p.«open» outer))) n exit → Put out at (text (lines t rs)) n exit
-wrote_ends {s} {t} {rs} {mid = mid} {exit = exit} {n = n} {p = p} {outer = outer} a b =
-    let z : frames_of s p.«open» outer ≡ (after_all t rs).blocks = ap (λ u. u.blocks) a.state in
-    put_as (ap text (lines_end t rs)) (pieces_then (pieces_of t rs) (end_all (after_all t rs).blocks) a.put (subst (λ fs. Put mid p.at (text (end_all fs)) n exit) z b))
+pub wrote_ends : {s : List ℕ} {t : T.State ℕ} {rs : List Plain} {p mid q : Page} {o : Open} {outer : List Around}
+    → Wrote s t rs p o outer mid → Puts mid q (text (end_all (frames_of s o outer))) → Puts p q (text (lines t rs))
+wrote_ends {s} {t} {rs} {mid = mid} {q = q} {o = o} {outer = outer} a b =
+    let z : frames_of s o outer ≡ (after_all t rs).blocks = ap (λ u. u.blocks) a.state in
+    puts_as (ap text (lines_end t rs)) (pieces_then (pieces_of t rs) (end_all (after_all t rs).blocks) a.put (puts_as (ap (λ fs. text (end_all fs)) z) b))
 
-pub wrote_lines : {s : List ℕ} {t : T.State ℕ} {rs : List Plain} (qs : List Plain) {out mid exit : List ℕ} {at n : ℕ} {p : Pen} {outer : List ℕ}
-    → Wrote s t rs out at p outer mid → Put mid p.at (text (lines (blocks_of s p.«open» outer) qs)) n exit → Put out at (text (lines t (rs ++ qs))) n exit
-wrote_lines {s} {t} {rs} qs {mid = mid} {exit = exit} {n = n} {p = p} a b =
-    put_as (ap text (lines_append t rs qs))
-    (pieces_then (pieces_of t rs) (lines (after_all t rs) qs) a.put (subst (λ u. Put mid p.at (text (lines u qs)) n exit) a.state b))
+pub wrote_lines : {s : List ℕ} {t : T.State ℕ} {rs : List Plain} (qs : List Plain) {p mid q : Page} {o : Open} {outer : List Around}
+    → Wrote s t rs p o outer mid → Puts mid q (text (lines (blocks_of s o outer) qs)) → Puts p q (text (lines t (rs ++ qs)))
+wrote_lines {s} {t} {rs} qs a b =
+    puts_as (ap text (lines_append t rs qs)) (pieces_then (pieces_of t rs) (lines (after_all t rs) qs) a.put (puts_as (ap (λ u. text (lines u qs)) a.state) b))
 
 -- A RECORD
 
@@ -109,20 +109,20 @@ first_of e = cc
 rest_of : {f g : Frame ℕ} {fs gs : List (Frame ℕ)} → f ∷ fs ≡ g ∷ gs → fs ≡ gs
 rest_of e = cc
 
-module _ (s : List ℕ) (o : Open) (outer : List ℕ) (r : Record) (out : List ℕ) (at : ℕ) (p : Pen) (mid : List ℕ) (e : Reached s o outer (bare s r) out at p mid)
-    (x : Taken) (mid' : List ℕ) (d : Settled s p.«open» (bare s r) mid p.at x mid') where
+module _ (s : List ℕ) (o : Open) (outer : List Around) (r : Record) (p : Page) (home : Open) (mid : Page) (e : Reached s o outer (bare s r) p home mid)
+    (x : Taken) (mid' : Page) (d : Settled s home (bare s r) mid x mid') where
   abbrev b : Plain
   b = bare s r
 
   -- the block that has the record, as it was and as it takes it, and those around it
   abbrev f : Frame ℕ
-  f = frame_of s p.«open».inner
+  f = frame_of s home.inner
 
   abbrev g : Frame ℕ
   g = taking f b
 
   abbrev fs : List (Frame ℕ)
-  fs = frames_in s p.«open».depth outer
+  fs = frames_in s home.depth outer
 
   takes_it : Takes o.version f b
   unfolding admits
@@ -144,19 +144,19 @@ module _ (s : List ℕ) (o : Open) (outer : List ℕ) (r : Record) (out : List �
   depth = sym (frames_length s x.«open».depth outer) ∙ ap length around
 
   -- the statement may be written
-  pub stating_in : (x.«open».depth ≤ 16) × (form_in (frame_of s x.«open».inner) b ≡ as_formed r.kind x.formed)
+  pub stating_in : (x.«open».depth ≤ 16) × (form_in (frame_of s x.«open».inner) b ≡ as_formed r.kind x.form)
   stating_in = (
-    omega (arith, depth, frames_length s p.«open».depth outer, shallow s p.«open» outer e.ended.ranked),
+    omega (arith, depth, frames_length s home.depth outer, shallow s home outer e.ended.ranked),
     ap (λ h. form_in h b) frame ∙ d.formed,
   )
 
-  deeper : (y : Formed) → form_in g b ≡ as_formed r.kind y → Deeper (rank g.block) (move_in y)
-  deeper (F.In w row) q = form_deeper g b _ q
-  deeper F.None q = tt
+  deeper : (y : Option Found) → form_in g b ≡ as_formed r.kind y → Deeper (rank g.block) (move_in y)
+  deeper (Some y) q = form_deeper g b _ q
+  deeper None q = tt
 
   -- and the record may be entered
-  pub entering_in : Pushes (move_in x.formed) → x.«open».depth < 5
-  entering_in h = omega (arith, depth, deeper_room g fs ranked (move_in x.formed) (deeper x.formed d.formed) h)
+  pub entering_in : Pushes (move_in x.form) → x.«open».depth < 5
+  entering_in h = omega (arith, depth, deeper_room g fs ranked (move_in x.form) (deeper x.form d.formed) h)
 
   abbrev stating : List Piece
   stating = statement (length fs) g b (form_in g b)
@@ -170,31 +170,30 @@ module _ (s : List ℕ) (o : Open) (outer : List ℕ) (r : Record) (out : List �
   goes_on = e.ended.state ∙ rw e.owned
 
   -- the open blocks after it
-  module _ (q : Open) (outer' : List ℕ) where
-    in_state : (y : Formed) → form_in g b ≡ as_formed r.kind y → Enters s x.«open» outer r y q outer'
+  module _ (q : Open) (outer' : List Around) where
+    in_state : (y : Option Found) → form_in g b ≡ as_formed r.kind y → Enters s x.«open» outer r y q outer'
         → (blocks_of s q outer' ≡ entered o.version g fs b (form_in g b)) × Ranked (frames_of s q outer')
-    in_state (F.In w row) h a =
-        let m = move_of (row.head / 256) in
-        let n = deeper (F.In w row) h in
+    in_state (Some y) h a =
+        let m = move_of (y.row.head / 256) in
+        let n = deeper (Some y) h in
         let z : blocks_of s q outer' ≡ T.shift m r.kind r.at b.name r.x o.version g fs
         = a (deeper_inside (rank g.block) m n) ∙ rw (in_version, frame, around) in
         (z ∙ rw h, subst Ranked (sym (ap (λ t. t.blocks) z)) (shift_ranked g fs ranked m n r.kind r.at b.name r.x o.version))
-    in_state F.None h a = absurd (false≢true (rw h at takes_it))
+    in_state None h a = absurd (false≢true (rw h at takes_it))
 
-    pub record_written : (to : ℕ) (exit : List ℕ) → Put mid' x.at (stated_in s x.«open».depth (frame_of s x.«open».inner) r) to exit
-        → length outer' ≡ 25 → Enters s x.«open» outer r x.formed q outer'
-        → Wrote s (blocks_of s o outer) (b ∷ []) out at (record { «open» = q; at = to }) outer' exit
-    record_written to exit w n a =
-        let z = in_state x.formed d.formed a in
-        let home = frame_of s x.«open».inner in
-        let deep : Put mid' x.at (text (statement (length fs) home b (form_in home b))) to exit
-        = subst (λ n. Put mid' x.at (text (statement n home b (form_in home b))) to exit) depth w in
-        let stated : Put mid' x.at (text stating) to exit
-        = subst (λ h. Put mid' x.at (text (statement (length fs) h b (form_in h b))) to exit) frame deep in
+    pub record_written : (to : Page) → Puts mid' to (stated_in s x.«open».depth (frame_of s x.«open».inner) r) → Enters s x.«open» outer r x.form q outer'
+        → Wrote s (blocks_of s o outer) (b ∷ []) p q outer' to
+    record_written to w a =
+        let z = in_state x.form d.formed a in
+        let within = frame_of s x.«open».inner in
+        let deep : Puts mid' to (text (statement (length fs) within b (form_in within b)))
+        = puts_as (ap (λ n. text (statement n within b (form_in within b))) depth) w in
+        let stated : Puts mid' to (text stating)
+        = puts_as (ap (λ h. text (statement (length fs) h b (form_in h b))) frame) deep in
         record {
-          put = put_as (ap text (sym written))
+          put = puts_as (ap text (sym written))
               (pieces_then e.ended.ends (before f (form_in f b) ++ stating) e.ended.put
               (pieces_then (before f (form_in f b)) stating d.put stated));
           state = z.0 ∙ sym goes_on;
-          stands = (n, z.1);
+          ranked = z.1;
         }

@@ -5,109 +5,57 @@
 //   a TEXT             a text, which is read into a file and written: what is written, or `refusal` with number, place and line
 #![tactic(auto)]
 
+use reader::reading;
+use record::Record;
 use refusal::Refusal;
-use vectors::{hex, plain, say};
+use std::io;
+use vectors::say::{Answer, Hex};
+use vectors::{hex, plain};
 
-fn main() {
-    let mut input = vectors::input();
-    let n = io::read_full(0, &mut input);
-    lines(&input[..n]);
+fn main(rt: HostRuntime) -> io::Result<()> {
+    vectors::for_each_line(&rt, |letter, fields| answer(&rt, letter, fields))
 }
 
-fn lines(input: &[u8]) {
-    let mut at = 0;
-    while at < input.len() {
-        let stop = vectors::next_of(b'\n', input, at);
-        line(&input[at..stop]);
-        at = stop + 1;
-    }
-}
-
-fn line(part: &[u8]) {
-    if part.len() == 0 {
-        return;
-    }
-    let letter = part[0];
+fn answer(rt: &(impl Print + AllocGlobal), letter: u8, fields: &[u8]) -> io::Result<()> {
     match letter {
-        b'w' => given(&part[1..]),
-        b'a' => again(&part[1..]),
-        _ => say::text(b"?"),
-    }
-    say::newline();
-}
-
-fn answer(a: Refusal) {
-    say::number(a.number as u64);
-    say::number(a.place as u64);
-    say::number(a.line as u64);
-}
-
-fn given(fields: &[u8]) {
-    if fields.len() < 5 {
-        return;
-    }
-    let mut size = [0u8; 2];
-    hex::bytes(&fields[0..4], &mut size);
-    let stop = vectors::next_of(b'|', fields, 5);
-    if stop < fields.len() {
-        let next = stop + 1;
-        asked(
-            little::number(&[size[1], size[0] % 16], 0, 2) as usize,
-            &fields[5..stop],
-            &fields[next..],
-        );
+        b'w' => given(rt, fields),
+        b'a' => again(rt, fields),
+        _ => print!(rt; "?"),
     }
 }
 
-fn asked(room: usize, text_field: &[u8], file_field: &[u8]) {
-    let mut text = [0u8; 4096];
-    let mut file = [0u8; 8192];
-    let mut out = [b'~'; 4096];
-    let n = plain::bytes(text_field, &mut text);
-    let m = hex::bytes(file_field, &mut file);
-    if room <= 4096 {
-        written(&text[0..n], &file[0..m], &mut out[0..room]);
-    }
-}
-
-fn written(text: &[u8], file: &[u8], out: &mut [u8]) {
-    answer(writer::write(text, file, out));
-    say::hex(out);
+fn given(rt: &(impl Print + AllocGlobal), fields: &[u8]) -> io::Result<()> {
+    let Some((room, fields)) = fields.split_first_chunk::<5>() else {
+        return Ok(());
+    };
+    let Some((text, file)) = vectors::cut(b'|', fields) else {
+        return Ok(());
+    };
+    let text = plain::decoded(rt.alloc(), text, 4096)?;
+    let file = hex::decoded(rt.alloc(), file, 8192)?;
+    let mut out = vec![in rt.alloc(); b'~'; hex::size(&room[0..4])]?;
+    let written = writer::write(&text, &file, &mut out);
+    print!(rt; "{} {}", Answer(written), Hex(&out))
 }
 
 // A text of at most 16,384 bytes.
-fn again(field: &[u8]) {
-    let mut text = [0u8; 16384];
-    let n = plain::bytes(field, &mut text);
-    reread(&text[0..n]);
+fn again(rt: &(impl Print + AllocGlobal), field: &[u8]) -> io::Result<()> {
+    let text = plain::decoded(rt.alloc(), field, 16384)?;
+    let mut file = vec![in rt.alloc(); 0; 294912]?;
+    let mut out = vec![in rt.alloc(); 0; 65536]?;
+    match rewritten(&text, &mut file, &mut out) {
+        Ok(n) => print!(rt; "{}", Hex(out.get(..n).unwrap_or(&[]))),
+        Err(refusal) => print!(rt; "refusal {} ", Answer(Err(refusal))),
+    }
 }
 
-fn reread(text: &[u8]) {
-    let mut file = [0u8; 294912];
-    let a = reader::reading::read(text, &mut file);
-    if a.number != Refusal::DONE {
-        refused(a);
-        return;
-    }
-    let count = a.place;
-    rewritten(text, &file, count);
-}
-
-// The text with the first n records of the file.
-fn rewritten(text: &[u8], file: &[u8], n: usize) {
-    let mut out = [0u8; 65536];
-    if file.len() / 36 < n {
-        return;
-    }
-    let a = writer::write(text, &file[0..36 * n], &mut out);
-    if a.number != Refusal::DONE {
-        refused(a);
-        return;
-    }
-    say::front_hex(&out, a.place);
-}
-
-fn refused(a: Refusal) {
-    say::text(b"refusal ");
-    answer(a);
+// Reads a text into a file, and writes it: how many bytes.
+fn rewritten(text: &[u8], file: &mut [u8], out: &mut [u8]) -> Result<usize, Refusal> {
+    let count = reading::read(text, file)?;
+    writer::write(
+        text,
+        file.get(..Record::SIZE.saturating_mul(count))
+            .unwrap_or(&[]),
+        out,
+    )
 }

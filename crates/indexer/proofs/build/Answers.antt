@@ -1,15 +1,15 @@
 -- `indexer::build` meets its contract: a refusal of the records is its answer, and all else is that of an accepted file.
-use Rattle.indexer.proofs.Answering.{accepted_by, built_refused, filled_refused}
-use Rattle.entry.specs.Entries.{count}
+use Rattle.std.proofs.lemmas.Result.{err_from_is_err_and}
+use Rattle.indexer.proofs.Answering.{accepted_by, build_err}
+use Rattle.indexer.proofs.Judged.{judged_ok}
 use Rattle.indexer.proofs.build.Goals as goal
 
-pub returns-then-answer-ne-DONE : goal.returns-then-answer-ne-DONE
-returns-then-answer-ne-DONE c =
+pub returns-in_err-check : goal.returns-in_err-check
+returns-in_err-check c =
     let a = c.args in
-    let k = c.check-answer in record { value = built_refused a.text.now a.records.now k.result k.ensures c.if-answer-ne-DONE.true (count a.index.now); index_after = filled_refused a.text.now a.records.now k.result k.ensures c.if-answer-ne-DONE.true a.index.now }
+    let r = build_err a.text.now a.records.now _ c.in_err-check.ensures a.index.now in
+    let p = err_from_is_err_and c.from_residual.result c.from_residual.ensures.1 in
+    record { value = rw (p.1, p.2) r.0; index_after = r.1 }
 
 pub build_accepted-requires : goal.build_accepted-requires
-build_accepted-requires c =
-    let a = c.args in
-    let k = c.check-answer in
-    accepted_by a.text.now a.records.now k.result k.ensures c.if-answer-ne-DONE.false
+build_accepted-requires c = accepted_by c.args.text.now c.args.records.now (judged_ok _ c.in_ok-check.ensures)

@@ -2,6 +2,7 @@
 use Prim.Native.Nat.{◌/◌, ◌≤◌}
 use mathlib.Core.Path.{ap, ◌∙◌}
 use lib.ListN.{length}
+use Rattle.std.specs.Prelude.{Err}
 use Rattle.refusal.specs.Table.{refused, record_room}
 use Rattle.file.specs.File.{held}
 use Rattle.index.specs.Index.{entries}
@@ -14,7 +15,7 @@ returns-then-index-n c =
     let a = s.args in
     let n = c.entered_in-n in
     let r = no_room a.text.now a.records.now s.requires a.index.now (rw n.ensures at c.if-index-n.true) in
-    record { value = c.record_room.ensures ∙ ap (λ k. refused record_room k 0) n.ensures ∙ r.0; index_after = r.1 }
+    record { value = ap Err (c.record_room.ensures ∙ ap (λ k. refused record_room k 0) n.ensures) ∙ r.0; index_after = r.1 }
 
 pub slice_bounds-sort-end-2 : goal.slice_bounds-sort-end-2
 slice_bounds-sort-end-2 c =
@@ -32,4 +33,4 @@ returns c =
     let o = c.sort in
     let fits : n.result ≤ length a.index.now / 16 = c.if-index-n.false in
     let r = sorted_front a.text.now a.records.now s.requires a.index.now n.result n.ensures fits f.new.index f.ensures o.new.file o.ensures in
-    record { value = c.done.ensures ∙ r.0; index_after = r.1 }
+    record { value = r.0; index_after = r.1 }

@@ -3,7 +3,6 @@ use native.Mathlib.Omega.{arith}
 use Rattle.little.proofs.Steps.{four_bytes}
 use Rattle.little.proofs.four.Goals as goal
 
-pub returns : goal.returns
-returns c =
-    let a = c.args in
-    omega (arith, four_bytes a.bytes.now a.place)
+pub returns-clause-eq : goal.returns-clause-eq
+returns-clause-eq c =
+    omega (arith, four_bytes c.args.bytes.now c.args.place)

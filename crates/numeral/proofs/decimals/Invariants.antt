@@ -1,8 +1,8 @@
 -- `numeral::decimals` meets its contract. The loop's invariant: what is left, read on, comes to what the whole comes to, and
--- the decimals that still count do not take the number past `top`. The measure is what is left of the length.
-use Prim.Native.Nat.{ℕ, ◌≤◌, ◌-◌, ◌+◌, ◌*◌, ◌^◌}
+-- the decimals that still count do not take the number past `top`.
+use Prim.Native.Nat.{ℕ, ◌≤◌, ◌+◌, ◌*◌, ◌^◌}
 use mathlib.Core.Path.{◌≡◌}
-use lib.ListN.{length, drop}
+use lib.ListN.{drop}
 use Rattle.numeral.specs.Machine.{most, decimals_of}
 use Rattle.numeral.proofs.decimals.Given as goal
 
@@ -11,8 +11,5 @@ abbrev pub top : ℕ
 top = (most + 1) * 1000000
 
 abbrev pub invariant-loop-i : goal.invariant-loop-i
-invariant-loop-i l = (l.i ≤ length l.part) × (l.room ≤ 6) × (l.x + 10 ^ l.room ≤ top)
-    × (decimals_of l.negative l.empty l.room l.x (drop l.i l.part) ≡ decimals_of l.negative l.none 6 (l.whole * 1000000) (drop l.from l.part))
-
-abbrev pub decreases-loop-i : goal.decreases-loop-i
-decreases-loop-i l = length l.part - l.i
+invariant-loop-i l = (l.room ≤ 6) × (l.x + 10 ^ l.room ≤ top)
+    × (decimals_of l.negative l.empty l.room l.x (drop l.i l.part) ≡ decimals_of l.negative l.none 6 (l.whole * 1000000) l.part)

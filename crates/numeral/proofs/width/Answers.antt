@@ -7,29 +7,29 @@ use Rattle.numeral.proofs.width.Goals as goal
 pub overflow_add-result : goal.overflow_add-result
 overflow_add-result c =
     let a = c.args in
-    omega (arith, length_plain a.negative a.m c.if-f-eq0.true, short_any a.negative a.m (omega arith))
+    omega (arith, length_plain a.v.negative a.v.millionths c.if-f-eq0.true, short_any a.v.negative a.v.millionths (omega arith))
 
 pub returns-then-f-eq0 : goal.returns-then-f-eq0
 returns-then-f-eq0 c =
     let a = c.args in
-    omega (arith, length_plain a.negative a.m c.if-f-eq0.true)
+    omega (arith, length_plain a.v.negative a.v.millionths c.if-f-eq0.true)
 
 pub overflow_add-result-2 : goal.overflow_add-result-2
 overflow_add-result-2 c =
     let a = c.args in
-    omega (arith, length_pointed a.negative a.m c.if-f-eq0.false, short_any a.negative a.m (omega arith))
+    omega (arith, length_pointed a.v.negative a.v.millionths c.if-f-eq0.false, short_any a.v.negative a.v.millionths (omega arith))
 
 pub overflow_add-result-3 : goal.overflow_add-result-3
 overflow_add-result-3 c =
     let a = c.args in
-    omega (arith, length_pointed a.negative a.m c.if-f-eq0.false, short_any a.negative a.m (omega arith))
+    omega (arith, length_pointed a.v.negative a.v.millionths c.if-f-eq0.false, short_any a.v.negative a.v.millionths (omega arith))
 
 pub overflow_add-result-4 : goal.overflow_add-result-4
 overflow_add-result-4 c =
     let a = c.args in
-    omega (arith, length_pointed a.negative a.m c.if-f-eq0.false, short_any a.negative a.m (omega arith))
+    omega (arith, length_pointed a.v.negative a.v.millionths c.if-f-eq0.false, short_any a.v.negative a.v.millionths (omega arith))
 
 pub returns : goal.returns
 returns c =
     let a = c.args in
-    omega (arith, length_pointed a.negative a.m c.if-f-eq0.false)
+    omega (arith, length_pointed a.v.negative a.v.millionths c.if-f-eq0.false)

@@ -1,53 +1,26 @@
--- `numeral::zeros` meets its contract. The loop's invariant: what is left comes to what the whole comes to.
--- The measure is what is left of the length.
-use Prim.Native.Nat.{◌≤◌, ◌<◌}
-use mathlib.Core.Path.{refl, ◌∙◌}
-use borrow.Author.Tests.{eq-eqb, ne_eqb}
-use native.Mathlib.Omega.{arith}
-use native.Mathlib.Numerals.{add-one}
-use lib.ListN.{length, drop_of_length-le}
-use lib.Seq.{drop-cons}
+-- `numeral::zeros` meets its contract: `zeros_of` asks the same of each byte.
+use Rattle.std.proofs.Common.{◌≡◌, ℕ, nat_eq, Bool, true, false, cond, List, [], ◌∷◌, ◌&&◌, Option, None, refl, sym, ◌∙◌}
+use Rattle.std.specs.List.{list_all}
+use Rattle.numeral.specs.declared.Scaled.{Scaled}
+use Rattle.numeral.specs.Numeral.{bounded}
+use Rattle.numeral.specs.Machine.{zeros_of}
 use Rattle.numeral.proofs.zeros.Goals as goal
 
-pub loop-i-init : goal.loop-i-init
-loop-i-init c =
-    (omega arith, refl)
+told : (negative : Bool) (x : ℕ) (s : List ℕ) (t : Bool) → list_all (λ b. nat_eq b 48) s ≡ t
+    → cond {A = Option Scaled} t (bounded negative x) None ≡ zeros_of negative x s
+told negative x [] t e = rw (← e) refl
+told negative x (b ∷ s) t e = go (nat_eq b 48) (told negative x s t) e
+  where
+    go : (u : Bool) → (list_all (λ b. nat_eq b 48) s ≡ t → cond {A = Option Scaled} t (bounded negative x) None ≡ zeros_of negative x s)
+        → (u && list_all (λ b. nat_eq b 48) s) ≡ t
+        → cond {A = Option Scaled} t (bounded negative x) None ≡ cond {A = Option Scaled} u (zeros_of negative x s) None
+    go true ih f = ih f
+    go false ih f = rw (← f) refl
 
-pub bounds-part-i : goal.bounds-part-i
-bounds-part-i c =
-    omega arith
+pub returns-then-only_zeros : goal.returns-then-only_zeros
+returns-then-only_zeros c =
+    let a = c.args in c.finish.ensures ∙ told a.negative a.x a.part.now true (sym c.only_zeros.ensures ∙ c.if-only_zeros.true)
 
-pub returns-then-part-i-ne48 : goal.returns-then-part-i-ne48
-returns-then-part-i-ne48 c =
-    let part = c.args.part.now in
-    let i = c.loop-i.i in
-    let h : i < length part = omega arith in
-    simp (ne_eqb _ _ c.if-part-i-ne48.true) at (rw (drop-cons part i 0 h) at c.loop-i.invariant.1)
-
-pub overflow_add-i : goal.overflow_add-i
-overflow_add-i c =
-    omega arith
-
-pub loop-i-smaller : goal.loop-i-smaller
-loop-i-smaller c =
-    omega arith
-
-pub loop-i-preserved : goal.loop-i-preserved
-loop-i-preserved c =
-    let part = c.args.part.now in
-    let i = c.loop-i.i in
-    let h : i < length part = omega arith in (
-      omega arith,
-      rw add-one (simp (eq-eqb _ _ c.if-part-i-ne48.false) at (rw (drop-cons part i 0 h) at c.loop-i.invariant.1)),
-    )
-
-pub finish-requires : goal.finish-requires
-finish-requires c =
-    omega arith
-
-pub returns : goal.returns
-returns c =
-    let part = c.args.part.now in
-    let i = c.loop-i.i in
-    let h : length part ≤ i = omega arith in
-    c.finish.ensures ∙ rw (drop_of_length-le part h) at c.loop-i.invariant.1
+pub returns-else-only_zeros : goal.returns-else-only_zeros
+returns-else-only_zeros c =
+    let a = c.args in told a.negative a.x a.part.now false (sym c.only_zeros.ensures ∙ c.if-only_zeros.false)

@@ -1,11 +1,11 @@
--- `rowfile::put` meets its contract: the tests are those of `has_room`, and what `lay` leaves is what `stored` says.
-use Prim.Native.Nat.{◌/◌, ◌≤◌}
+-- `rowfile::put` meets its contract: the tests are those of `has_room`, and the part written is what `stored` says.
+use Prim.Native.Nat.{◌*◌, ◌/◌, ◌≤◌}
 use native.Mathlib.Nat.{div-zero}
 use native.Mathlib.Omega.{arith}
 use borrow.Author.Tests.{lt-ltb, le-ltb}
 use lib.ListN.{length}
 use Rattle.rowfile.specs.Rows.{stored}
-use Rattle.rowfile.proofs.Parts.{in_file}
+use Rattle.rowfile.proofs.Stored.{sets_copied, row_fits}
 use Rattle.rowfile.proofs.put.Goals as goal
 
 pub returns-then-row-eq0 : goal.returns-then-row-eq0
@@ -20,18 +20,10 @@ unfolding stored
 returns-then-file-row c =
     record { value = rw (le-ltb _ _ c.if-file-row.true); file_after = rw (le-ltb _ _ c.if-file-row.true) }
 
-pub overflow_mul-row : goal.overflow_mul-row
-overflow_mul-row c =
-    let a = c.args in
-    omega (arith, in_file (length a.row.now) a.file.now a.index (omega (arith, c.if-row-eq0.false)) c.if-file-row.false)
-
-pub lay-requires : goal.lay-requires
-lay-requires c =
-    let a = c.args in
-    in_file (length a.row.now) a.file.now a.index (omega (arith, c.if-row-eq0.false)) c.if-file-row.false
-
 pub returns : goal.returns
 unfolding stored
 returns c =
+    let a = c.args in
     let room = lt-ltb _ _ c.if-file-row.false in
-    record { value = rw room; file_after = rw room c.lay.ensures }
+    let fits = row_fits (length a.row.now) a.row.now a.index a.file.now room in
+    record { value = rw room; file_after = rw room (sets_copied _ a.row.now a.file.now (length a.row.now * a.index) _ c.copy_from_slice.ensures.after (omega arith) fits) }

@@ -10,20 +10,10 @@ spelt : wordy outer_rows ≡ true
 unfolding keys values words raised upper same first_where word_of wordy
 spelt = refl
 
-pub word_of-w-requires : goal.word_of-w-requires
-unfolding word_of_kind
-word_of-w-requires c =
-    tt
-
 pub returns-then-w-ne0 : goal.returns-then-w-ne0
 unfolding word_of_kind
 returns-then-w-ne0 c q =
     let o = c.word_of-w.ensures in o ∙ before_these _ outer_rows inner_rows (λ z. c.if-w-ne0.true (o ∙ z))
-
-pub word_of-requires : goal.word_of-requires
-unfolding word_of_kind
-word_of-requires c =
-    tt
 
 pub returns : goal.returns
 unfolding word_of_kind

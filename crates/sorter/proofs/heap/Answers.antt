@@ -12,18 +12,10 @@ sift-requires c =
     let l = c.loop-i in
     (omega (arith, l.invariant.within), heaping_fit _ _ _ _ l.invariant)
 
-pub loop-i-smaller : goal.loop-i-smaller
-loop-i-smaller c =
-    omega arith
-
 pub loop-i-preserved : goal.loop-i-preserved
 loop-i-preserved c =
     let b = c in
     heaping_next _ _ _ _ b.loop-i.invariant _ b.loop-i-test.true c.sift.ensures
-
-pub shape_of-file : goal.shape_of-file
-shape_of-file c =
-    c.loop-i.invariant.permuted.size
 
 pub returns : goal.returns
 returns c =

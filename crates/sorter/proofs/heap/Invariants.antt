@@ -4,6 +4,3 @@ use Rattle.sorter.proofs.heap.Given as goal
 
 abbrev pub invariant-loop-i : goal.invariant-loop-i
 invariant-loop-i l = Heaping l.text l.i l.initial.file l.file
-
-abbrev pub decreases-loop-i : goal.decreases-loop-i
-decreases-loop-i l = l.i

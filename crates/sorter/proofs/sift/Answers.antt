@@ -5,10 +5,6 @@ use Rattle.sorter.proofs.Sinking.{sinks_start, sinks_fit, sinks_none, sinks_next
 use Rattle.sorter.proofs.Precedence.{first_read}
 use Rattle.sorter.proofs.sift.Goals as goal
 
-pub read-sinking-requires : goal.read-sinking-requires
-read-sinking-requires c =
-    omega arith
-
 pub loop-sinking-init : goal.loop-sinking-init
 loop-sinking-init c =
     sinks_start _ _ _ _ c.requires.0
@@ -44,10 +40,6 @@ loop-sinking-preserved c =
     let h = b.loop-sinking.invariant in
     let fits = sinks_fit _ _ _ _ _ _ h b.requires.1 in
     sinks_next _ _ _ _ _ _ h _ g fits _ c.swap.ensures (first_read _ _ b.read-sinking.ensures.of (r.after g.within))
-
-pub shape_of-file : goal.shape_of-file
-shape_of-file c =
-    c.loop-sinking.invariant.permuted.size
 
 pub returns : goal.returns
 returns c =

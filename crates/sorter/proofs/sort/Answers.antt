@@ -18,10 +18,6 @@ sift-requires c =
     let b = c in
     (omega arith, rounds_swapped _ _ _ _ b.loop-end.invariant (omega (arith, b.loop-end-test.true)) _ c.swap.ensures)
 
-pub loop-end-smaller : goal.loop-end-smaller
-loop-end-smaller c =
-    omega arith
-
 pub loop-end-preserved : goal.loop-end-preserved
 loop-end-preserved c =
     let b = c in

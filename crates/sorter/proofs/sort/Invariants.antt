@@ -4,6 +4,3 @@ use Rattle.sorter.proofs.sort.Given as goal
 
 abbrev pub invariant-loop-end : goal.invariant-loop-end
 invariant-loop-end l = Rounds l.text l.end l.initial.file l.file
-
-abbrev pub decreases-loop-end : goal.decreases-loop-end
-decreases-loop-end l = l.end

@@ -1,31 +1,25 @@
--- `vectors::next_of` meets its contract: none of the bytes passed is the one looked for, so the next from here on is the next from the place given.
-use mathlib.Core.Path.{refl, sym, ◌∙◌}
-use borrow.Author.Tests.{not-true, not-false}
+-- `vectors::next_of` meets its contract: the position of the first such byte is how many bytes stand before it.
+use Rattle.std.proofs.Common.{rules, tests, ◌≡◌}
+use lib.ListN.{length-drop}
 use native.Mathlib.Omega.{arith}
-use Rattle.vectors.proofs.Laws.{before_other, before_found, before_end}
+use Rattle.std.proofs.option.Match.{if_some}
+use Rattle.std.proofs.lemmas.List.{take_rest}
+use Rattle.std.proofs.lemmas.Iterator.{IsFirst-from_position, YieldsList-from_slice, index_from_first}
+use Rattle.vectors.specs.Next.{before}
+use Rattle.vectors.proofs.Laws.{before_hit, before_miss, before_none}
 use Rattle.vectors.proofs.next_of.Goals as goal
 
-pub returns-then-input-at : goal.returns-then-input-at
-returns-then-input-at c =
-    omega arith
+pub returns-in-Some : goal.returns-in-Some
+returns-in-Some c =
+    let b = c.args.byte in
+    let first = IsFirst-from_position _ _ _ (λ x. x ≡ b) (λ x. x ≡ b → ⊥) c.position.ensures.ran (YieldsList-from_slice _ c.iter.ensures.rest) (λ x q k. search (rules, tests)) (λ x q k. search (rules, tests)) in
+    let counted = index_from_first (before b) (λ x. x ≡ b) (λ x. x ≡ b → ⊥) (before_none b) (before_hit b) (before_miss b) _ _ first in
+    let found = if_some _ _ _ c.in-Some.is first in
+    omega (arith, rw (take_rest c.args.input.now c.args.at, c.in-Some.is) at counted, found.0, length-drop c.args.at c.args.input.now)
 
-pub loop-i-init : goal.loop-i-init
-loop-i-init c =
-    (omega arith, refl)
-
-pub loop-i-preserved : goal.loop-i-preserved
-loop-i-preserved c =
-    let a = c.args in
-    let l = c.loop-i in
-    (omega arith, sym (before_other a.byte a.input.now l.i (omega arith) (not-true _ c.if-input-i.true-raw)) ∙ l.invariant.1)
-
-pub returns-else-input-i : goal.returns-else-input-i
-returns-else-input-i c =
-    let a = c.args in
-    let l = c.loop-i in
-    omega (arith, before_found a.byte a.input.now l.i (omega arith) (not-false _ c.if-input-i.false-raw))
-
-pub returns-after-loop-i : goal.returns-after-loop-i
-returns-after-loop-i c =
-    let a = c.args in
-    omega (arith, before_end a.byte a.input.now c.loop-i.i (omega arith))
+pub returns-in-None : goal.returns-in-None
+returns-in-None c =
+    let b = c.args.byte in
+    let first = IsFirst-from_position _ _ _ (λ x. x ≡ b) (λ x. x ≡ b → ⊥) c.position.ensures.ran (YieldsList-from_slice _ c.iter.ensures.rest) (λ x q k. search (rules, tests)) (λ x q k. search (rules, tests)) in
+    let counted = index_from_first (before b) (λ x. x ≡ b) (λ x. x ≡ b → ⊥) (before_none b) (before_hit b) (before_miss b) _ _ first in
+    omega (arith, rw (take_rest c.args.input.now c.args.at, c.in-None.is) at counted, length-drop c.args.at c.args.input.now)

@@ -1,63 +1,54 @@
 -- `word::stretch` meets its contract: the sum is that of the bytes passed, the last first.
-use Prim.Native.Nat.{◌-◌, ◌≤◌, ◌<◌}
-use mathlib.Core.Path.{◌≡◌, sym}
+use Prim.Native.Nat.{ℕ, ◌-◌, ◌<◌, ◌≤◌}
+use mathlib.Core.Path.{◌≡◌, refl, ◌∙◌}
 use native.Mathlib.Omega.{arith}
-use Rattle.word.proofs.Marked.{no_bytes, earlier, wider, five, six}
+use lib.ListN.{length, get_or, drop_of_length-le}
+use Rattle.std.specs.Char.{to_ascii_uppercase}
+use Rattle.std.proofs.lemmas.Bool.Decides.{nat_tests}
+use Rattle.word.specs.Words.{raised, upper}
+use Rattle.word.specs.Lookup.{marked}
+use Rattle.word.proofs.Marked.{earlier, wider, five, six}
 use Rattle.word.proofs.stretch.Goals as goal
+use Rattle.word.proofs.stretch.Goals.{In-loop-i}
 
 -- before a turn at most five bytes are passed
-small : (c : goal.In-loop-i) → c.loop-i.sum < 2199023255552
+small : (c : In-loop-i) → c.loop-i.sum < 2199023255552
 small c =
-    let a = c.args in
-    five (a.to - c.loop-i.i) c.loop-i.sum (omega arith) c.loop-i.invariant.3
+    let l = c.loop-i in
+    five (length c.args.bytes.now - l.i) l.sum (omega arith) l.invariant.1
 
--- before a turn at most five bytes are passed
-small_after_letter : (c : goal.After-letter) → c.loop-i.sum < 2199023255552
-small_after_letter c =
-    let a = c.args in
-    five (a.to - c.loop-i.i) c.loop-i.sum (omega arith) c.loop-i.invariant.3
+in_upper : (b : ℕ) → to_ascii_uppercase b ≡ raised b
+unfolding raised
+in_upper b = grind (arith, nat_tests)
 
 pub loop-i-init : goal.loop-i-init
+unfolding upper marked
 loop-i-init c =
-    let e : c.args.to - c.args.to ≡ 0 = omega arith in
-    (omega arith, omega arith, rw e (sym (no_bytes c.args.raising)), rw e (omega arith))
-
-pub overflow_sub-i : goal.overflow_sub-i
-overflow_sub-i c =
-    omega arith
+    let s = c.args.bytes.now in
+    let e : length s - length s ≡ 0 = omega arith in
+    (rw (drop_of_length-le s {i = length s} (omega arith)) refl, rw e (omega arith))
 
 pub overflow_mul-sum : goal.overflow_mul-sum
 overflow_mul-sum c =
-    omega (arith, small c)
-
-pub bounds-part-i : goal.bounds-part-i
-bounds-part-i c =
-    omega arith
+    omega (arith, small (goal.at.overflow_mul-sum c).In-loop-i)
 
 pub overflow_add-sum : goal.overflow_add-sum
 overflow_add-sum c =
-    omega (arith, small_after_letter c)
-
-pub loop-i-smaller : goal.loop-i-smaller
-loop-i-smaller c =
-    omega arith
+    omega (arith, small (goal.at.overflow_add-sum c).In-loop-i)
 
 pub loop-i-preserved : goal.loop-i-preserved
 loop-i-preserved c =
-    let a = c.args in
+    let s = c.args.bytes.now in
     let l = c.loop-i in
     let p : 0 < l.i = omega arith in
-    let q : l.i ≤ a.to = omega arith in
-    let e = c.letter.ensures.0 in (
-      omega arith,
-      omega arith,
-      omega (arith, e, earlier a.raising a.to l.i a.part.now p q (omega arith), l.invariant.2),
-      wider a.to l.i c.letter.result l.sum p q (omega arith) l.invariant.3,
-    )
+    let q : l.i ≤ length s = omega arith in
+    let e : c.from.result ≡ raised (get_or s (l.i - 1) 0) =
+    c.from.ensures ∙ c.to_ascii_uppercase.ensures.value ∙ in_upper (get_or s (l.i - 1) 0) in
+    (omega (arith, e, earlier l.i s p q, l.invariant.0), wider (length s) l.i c.from.result l.sum p q (omega arith) l.invariant.1)
 
 pub returns : goal.returns
 returns c =
-    let a = c.args in
+    let s = c.args.bytes.now in
     let l = c.loop-i in
-    let z : l.i ≡ a.from = omega arith in
-    record { of = rw z at l.invariant.2; small = six (a.to - l.i) l.sum (omega arith) l.invariant.3 }
+    let z : l.i ≡ 0 = omega arith in
+    record { of = rw z at l.invariant.0; small = six (length s - l.i) l.sum (omega arith) l.invariant.1 }

@@ -1,10 +1,6 @@
--- `asking::long::sum` stays within the bytes, and its sum is a remainder.
-use Prim.Native.Nat.{◌-◌, ◌≤◌, ◌<◌}
-use lib.ListN.{length}
+-- `asking::long::sum` is safe: its sum is a remainder.
+use Prim.Native.Nat.{◌<◌}
 use Rattle.asking.proofs.long.sum.Given as goal
 
-abbrev pub invariant-loop-i : goal.invariant-loop-i
-invariant-loop-i l = (l.i ≤ length l.bytes) × (l.s < 16777213)
-
-abbrev pub decreases-loop-i : goal.decreases-loop-i
-decreases-loop-i l = length l.bytes - l.i
+abbrev pub invariant-loop-b : goal.invariant-loop-b
+invariant-loop-b l = l.sum < 16777213

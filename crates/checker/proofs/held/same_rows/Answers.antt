@@ -18,4 +18,4 @@ returns c =
       c.word32.ensures.eq,
       c.word32-2.ensures.eq,
     )
-    (five_same s.args.a.now s.args.b.now (λ i. omega (arith, c.shared_slice_known-1.given i)) (λ i. omega (arith, c.shared_slice_known-2-1.given i)) s.requires.0 s.requires.1)
+    (five_same s.args.a.now s.args.b.now (λ i. omega (arith, c.type_inv.a i)) (λ i. omega (arith, c.type_inv.b i)) s.requires.0 s.requires.1)

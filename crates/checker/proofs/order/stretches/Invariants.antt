@@ -5,8 +5,8 @@ use Rattle.parser.specs.Code.{rest_of}
 use Rattle.checker.proofs.Following.{So}
 use Rattle.checker.proofs.order.stretches.Given as goal
 
-abbrev pub invariant-loop-refusal : goal.invariant-loop-refusal
-invariant-loop-refusal l = So l.text l.initial.st l.file l.st l.run × (length l.w ≡ length l.initial.w)
+abbrev pub invariant-loop-c : goal.invariant-loop-c
+invariant-loop-c l = So l.text l.initial.st l.file l.st l.run × (length l.w ≡ length l.initial.w)
 
-abbrev pub decreases-loop-refusal : goal.decreases-loop-refusal
-decreases-loop-refusal l = length (rest_of l.text l.st.held)
+abbrev pub decreases-loop-c : goal.decreases-loop-c
+decreases-loop-c l = length (rest_of l.text l.st.held)

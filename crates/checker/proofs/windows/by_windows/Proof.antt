@@ -1,4 +1,5 @@
 -- `by_windows` meets its contract: the window and its marks have room.
+-- A walk by hand: with answers in its place the check computes the window's 589,824 bytes one by one, and does not end.
 use Prim.Native.Nat.{ℕ}
 use mathlib.Core.Path.{refl, sym}
 use lib.ListN.{length-replicate}

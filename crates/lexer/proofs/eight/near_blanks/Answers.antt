@@ -15,9 +15,7 @@ overflow_add-result c =
 
 pub returns-else-ends-eq0 : goal.returns-else-ends-eq0
 returns-else-ends-eq0 c =
-    let m = c in
-    let d = m in
-    let at = d.args.at in
-    let most = few is_blank _ at _ _ d.eight.ensures m.blank_ends-ends.ensures c.if-ends-eq0.false in
-    let ends = ap (λ n. at + n) c.before-else-ends-eq0.ensures ∙ here is_blank _ at _ _ d.eight.ensures m.blank_ends-ends.ensures c.if-ends-eq0.false in
+    let at = c.args.at in
+    let most = few is_blank _ at _ _ c.eight.ensures c.blank_ends-ends.ensures c.if-ends-eq0.false in
+    let ends = ap (λ n. at + n) c.before-else-ends-eq0.ensures ∙ here is_blank _ at _ _ c.eight.ensures c.blank_ends-ends.ensures c.if-ends-eq0.false in
     (omega arith, omega (arith, most, c.before-else-ends-eq0.ensures), ap (past is_blank _) ends ∙ through is_blank is_blank _ at (λ b h. h))

@@ -1,17 +1,12 @@
--- `scan::run_past` meets its contract: at each turn the run from the present place ends where the run from the place given does.
-use mathlib.Core.Path.{◌∙◌}
-use native.Mathlib.Omega.{arith}
-use Rattle.lexer.proofs.Runs.{on, off, out}
+-- `scan::run_past` meets its contract: what is left of the text is searched for the first byte that the run does not go over.
+use Rattle.std.proofs.Common.{rules, tests, not}
+use Rattle.std.proofs.lemmas.Iterator.{YieldsList-from_slice}
+use Rattle.std.proofs.lemmas.Iterator.Search.{position_from_yields_List}
+use Rattle.lexer.proofs.Runs.{found}
 use Rattle.lexer.proofs.scan.run_past.Goals as goal
 
-pub loop-i-preserved : goal.loop-i-preserved
-loop-i-preserved c =
-    on _ _ _ (omega arith) (cc) ∙ c.loop-i.invariant
-
-pub returns-else-goes_on : goal.returns-else-goes_on
-returns-else-goes_on c =
-    off _ _ _ (omega arith) (cc) ∙ c.loop-i.invariant
-
-pub returns-after-loop-i : goal.returns-after-loop-i
-returns-after-loop-i c =
-    out _ _ _ (omega arith) ∙ c.loop-i.invariant
+pub returns : goal.returns
+returns g c =
+    λ p h.
+    let e = position_from_yields_List (λ b. not (p b)) _ _ c.position.result c.position.ensures.ran (YieldsList-from_slice _ c.iter.ensures.rest) (λ x b q k. search (rules, tests, h)) in
+    found p _ _ _ _ e c.unwrap_or.ensures

@@ -1,6 +1,5 @@
 -- `numeral::laid::fraction_width` meets its contract. The loop's invariant: the decimals that are left, and those that are counted.
--- The measure is the places that are left.
-use Prim.Native.Nat.{◌≤◌, ◌+◌, ◌-◌, ◌%◌, ◌^◌}
+use Prim.Native.Nat.{ℕ, ◌-◌, ◌<◌, ◌^◌}
 use mathlib.Core.Path.{◌≡◌, ap}
 use mathlib.Core.List.{[]}
 use native.Mathlib.Omega.{arith}
@@ -12,53 +11,29 @@ use Rattle.numeral.proofs.Parts.{fraction_none, turn}
 use Rattle.numeral.proofs.Short.{fraction_length}
 use Rattle.numeral.proofs.laid.fraction_width.Goals as goal
 
--- a place is left, and a decimal more makes the rest a decimal shorter
-place : (c : goal.In-loop-rest) → 1 ≤ c.loop-rest.k
-place c = (turn c.loop-rest.k c.loop-rest.rest c.loop-rest-test.true c.loop-rest.invariant.1).0
-
--- a place is left, and a decimal more makes the rest a decimal shorter
-place_after_power_rest : (c : goal.After-power-rest) → 1 ≤ c.loop-rest.k
-place_after_power_rest c = (turn c.loop-rest.k c.loop-rest.rest c.loop-rest-test.true c.loop-rest.invariant.1).0
-
-shorter : (c : goal.After-power-rest)
-    → length (fraction c.loop-rest.k c.loop-rest.rest)
-    ≡ length (fraction (c.loop-rest.k - 1) (c.loop-rest.rest % 10 ^ (c.loop-rest.k - 1))) + 1
-shorter c =
-    omega (arith, ap length (turn c.loop-rest.k c.loop-rest.rest c.loop-rest-test.true c.loop-rest.invariant.1).1)
-
-pub loop-rest-init : goal.loop-rest-init
-loop-rest-init c =
-    omega arith
-
-pub overflow_sub-k : goal.overflow_sub-k
-overflow_sub-k c =
-    place c
-
-pub power-rest-requires : goal.power-rest-requires
-power-rest-requires c =
-    omega arith
-
-pub nonzero_rem-rest : goal.nonzero_rem-rest
-nonzero_rem-rest c =
-    rw c.power-rest.ensures (power_pos _)
+-- what has no rest has no decimals
+ended : (k rest : ℕ) → rest ≡ 0 → fraction k rest ≡ []
+ended k rest z = rw z (fraction_none k)
 
 pub overflow_add-w : goal.overflow_add-w
 overflow_add-w c =
     omega (arith, fraction_length 6 c.args.f)
 
-pub loop-rest-smaller : goal.loop-rest-smaller
-loop-rest-smaller c =
-    omega (arith, place_after_power_rest c)
-
-pub loop-rest-preserved : goal.loop-rest-preserved
-loop-rest-preserved c =
-    let l = c.loop-rest in
+pub loop-k-preserved : goal.loop-k-preserved
+loop-k-preserved c =
+    let l = c.loop-k in
     let e = c.power-rest.ensures in
-    (omega arith, rw e (mod-lt l.rest (power_pos (l.k - 1))), rw e (omega (arith, shorter c)))
+    let t = turn l.k l.rest (omega arith) l.invariant.0 in
+    (rw e (mod-lt l.rest (power_pos (l.k - 1))), rw e (omega (arith, ap length t.1)))
+
+pub returns-then-rest-eq0 : goal.returns-then-rest-eq0
+returns-then-rest-eq0 c =
+    let l = c.loop-k in
+    omega (arith, ap length (ended l.k l.rest c.if-rest-eq0.true))
 
 pub returns : goal.returns
 returns c =
-    let l = c.loop-rest in
-    let z : l.rest ≡ 0 = omega arith in
-    let n : fraction l.k l.rest ≡ [] = rw z (fraction_none l.k) in
-    omega (arith, ap length n)
+    let l = c.loop-k in
+    let k : l.k ≡ 0 = omega arith in
+    let h : l.rest < 10 ^ 0 = rw k at l.invariant.0 in
+    omega (arith, ap length (ended l.k l.rest (omega arith)))

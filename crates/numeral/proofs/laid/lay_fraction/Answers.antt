@@ -1,7 +1,6 @@
 -- `numeral::laid::lay_fraction` meets its contract. The loop's invariant: what is left, written on, comes to what the whole comes to.
--- The measure is the places that are left.
-use Prim.Native.Nat.{suc, ◌≤◌, ◌<◌, ◌+◌, ◌-◌, ◌/◌, ◌%◌, ◌^◌}
-use mathlib.Core.Path.{◌≡◌, refl, ap}
+use Prim.Native.Nat.{ℕ, ◌≤◌, ◌<◌, ◌+◌, ◌-◌, ◌/◌, ◌%◌, ◌^◌}
+use mathlib.Core.Path.{◌≡◌, ap}
 use mathlib.Core.List.{[], ◌∷◌}
 use native.Mathlib.Omega.{arith}
 use native.Mathlib.Nat.{mod-lt}
@@ -11,85 +10,43 @@ use Rattle.numeral.specs.Shortest.{fraction}
 use Rattle.numeral.proofs.Digits.{power_pos}
 use Rattle.numeral.proofs.Parts.{fraction_none, turn}
 use Rattle.numeral.proofs.laid.lay_fraction.Goals as goal
+use Rattle.numeral.proofs.laid.lay_fraction.Goals.{In-loop-k}
 
-turn_of : (c : goal.In-loop-rest) → (1 ≤ c.loop-rest.k)
-    × (fraction c.loop-rest.k c.loop-rest.rest
-    ≡ (48 + c.loop-rest.rest / 10 ^ (c.loop-rest.k - 1)) ∷ fraction (c.loop-rest.k - 1) (c.loop-rest.rest % 10 ^ (c.loop-rest.k - 1)))
-    × (c.loop-rest.rest / 10 ^ (c.loop-rest.k - 1) < 10)
-turn_of c = turn c.loop-rest.k c.loop-rest.rest c.loop-rest-test.true c.loop-rest.invariant.1
+turn_of : (c : In-loop-k) → 0 < c.loop-k.rest → (1 ≤ c.loop-k.k)
+    × (fraction c.loop-k.k c.loop-k.rest
+    ≡ (48 + c.loop-k.rest / 10 ^ (c.loop-k.k - 1)) ∷ fraction (c.loop-k.k - 1) (c.loop-k.rest % 10 ^ (c.loop-k.k - 1)))
+    × (c.loop-k.rest / 10 ^ (c.loop-k.k - 1) < 10)
+turn_of c h = turn c.loop-k.k c.loop-k.rest h c.loop-k.invariant.0
 
-turn_of_after_power_unit : (c : goal.After-power-unit) → (1 ≤ c.loop-rest.k)
-    × (fraction c.loop-rest.k c.loop-rest.rest
-    ≡ (48 + c.loop-rest.rest / 10 ^ (c.loop-rest.k - 1)) ∷ fraction (c.loop-rest.k - 1) (c.loop-rest.rest % 10 ^ (c.loop-rest.k - 1)))
-    × (c.loop-rest.rest / 10 ^ (c.loop-rest.k - 1) < 10)
-turn_of_after_power_unit c = turn c.loop-rest.k c.loop-rest.rest c.loop-rest-test.true c.loop-rest.invariant.1
-
-turn_of_after_glyph : (c : goal.After-glyph) → (1 ≤ c.loop-rest.k)
-    × (fraction c.loop-rest.k c.loop-rest.rest
-    ≡ (48 + c.loop-rest.rest / 10 ^ (c.loop-rest.k - 1)) ∷ fraction (c.loop-rest.k - 1) (c.loop-rest.rest % 10 ^ (c.loop-rest.k - 1)))
-    × (c.loop-rest.rest / 10 ^ (c.loop-rest.k - 1) < 10)
-turn_of_after_glyph c = turn c.loop-rest.k c.loop-rest.rest c.loop-rest-test.true c.loop-rest.invariant.1
-
--- a decimal more makes the rest a decimal shorter
-shorter : (c : goal.After-glyph)
-    → length (fraction c.loop-rest.k c.loop-rest.rest)
-    ≡ suc (length (fraction (c.loop-rest.k - 1) (c.loop-rest.rest % 10 ^ (c.loop-rest.k - 1))))
-shorter c = ap length (turn_of_after_glyph c).1
-
-pub loop-rest-init : goal.loop-rest-init
-loop-rest-init c =
-    (omega arith, omega arith, refl, refl, refl)
-
-pub overflow_sub-k : goal.overflow_sub-k
-overflow_sub-k c =
-    (turn_of c).0
-
-pub power-unit-requires : goal.power-unit-requires
-power-unit-requires c =
-    omega arith
-
-pub nonzero_div-rest : goal.nonzero_div-rest
-nonzero_div-rest c =
-    rw c.power-unit.ensures (power_pos _)
-
-pub glyph-requires : goal.glyph-requires
-glyph-requires c =
-    rw c.power-unit.ensures (turn_of_after_power_unit c).2
+-- what has no rest has no decimals
+ended : (k rest : ℕ) → rest ≡ 0 → fraction k rest ≡ []
+ended k rest z = rw z (fraction_none k)
 
 pub bounds-out-p : goal.bounds-out-p
 bounds-out-p c =
-    omega (arith, shorter c)
+    omega (arith, ap length (turn_of (goal.at.bounds-out-p c).In-loop-k (omega arith)).1)
 
-pub nonzero_rem-rest : goal.nonzero_rem-rest
-nonzero_rem-rest c =
-    rw c.power-unit.ensures (power_pos _)
-
-pub overflow_add-p : goal.overflow_add-p
-overflow_add-p c =
-    omega (arith, shorter c)
-
-pub loop-rest-smaller : goal.loop-rest-smaller
-loop-rest-smaller c =
-    omega (arith, (turn_of_after_glyph c).0)
-
-pub loop-rest-preserved : goal.loop-rest-preserved
-loop-rest-preserved c =
-    let l = c.loop-rest in
-    let e = c.power-unit.ensures in (
-      omega arith,
+pub loop-k-preserved : goal.loop-k-preserved
+loop-k-preserved c =
+    let l = c.loop-k in
+    let e = c.power-unit.ensures in
+    let t = turn_of (goal.at.loop-k-preserved c).In-loop-k (omega arith) in (
       rw e (mod-lt l.rest (power_pos (l.k - 1))),
-      simp length-set l.invariant.2,
-      rw e (omega (arith, shorter c)),
-      rw (add-one, c.glyph.ensures, e) (rw (turn_of_after_glyph c).1 at l.invariant.4),
+      simp length-set l.invariant.1,
+      rw e (omega (arith, ap length t.1)),
+      rw (add-one, c.glyph.ensures, e) (rw t.1 at l.invariant.3),
     )
 
-pub shape_of-out : goal.shape_of-out
-shape_of-out c =
-    c.loop-rest.invariant.2
+pub returns-then-rest-eq0 : goal.returns-then-rest-eq0
+returns-then-rest-eq0 c =
+    let l = c.loop-k in
+    let n = ended l.k l.rest c.if-rest-eq0.true in
+    record { value = omega (arith, ap length n); out_after = rw n at l.invariant.3 }
 
 pub returns : goal.returns
 returns c =
-    let l = c.loop-rest in
-    let z : l.rest ≡ 0 = omega arith in
-    let n : fraction l.k l.rest ≡ [] = rw z (fraction_none l.k) in
-    record { value = omega (arith, ap length n); out_after = rw n at l.invariant.4 }
+    let l = c.loop-k in
+    let k : l.k ≡ 0 = omega arith in
+    let h : l.rest < 10 ^ 0 = rw k at l.invariant.0 in
+    let n = ended l.k l.rest (omega arith) in
+    record { value = omega (arith, ap length n); out_after = rw n at l.invariant.3 }

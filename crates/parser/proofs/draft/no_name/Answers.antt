@@ -1,19 +1,15 @@
 -- `parser::draft::no_name` meets its contract: a name held is refused.
-use borrow.Author.Tests.{eq-eqb, ne_eqb}
+use Rattle.lexer.specs.declared.Kind.{Kind}
+use Rattle.lexer.proofs.Kinded.{kind_test}
 use Rattle.grammar.specs.Engine.{item}
 use Rattle.parser.proofs.draft.no_name.Goals as goal
 
-pub complain-requires : goal.complain-requires
+pub returns-then-eq : goal.returns-then-eq
 unfolding item
-complain-requires c =
-    tt
-
-pub returns-then-k-eq-NAME : goal.returns-then-k-eq-NAME
-unfolding item
-returns-then-k-eq-NAME c s f b =
-    rw (c.complain.ensures, eq-eqb _ 1 c.if-k-eq-NAME.true)
+returns-then-eq c s f b =
+    rw (c.complain.ensures, kind_test _ Kind.Name c.eq.ensures c.if-eq.true)
 
 pub returns : goal.returns
 unfolding item
 returns c s f b =
-    rw (ne_eqb _ 1 c.if-k-eq-NAME.false)
+    rw (kind_test _ Kind.Name c.eq.ensures c.if-eq.false)

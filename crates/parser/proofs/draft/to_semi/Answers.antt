@@ -1,23 +1,14 @@
 -- `parser::draft::to_semi` meets its contract: the answer of the taker, and nothing set.
 use Rattle.grammar.specs.Engine.{item}
+use Rattle.parser.proofs.Exits.{handed_on}
 use Rattle.parser.proofs.draft.to_semi.Goals as goal
 
-pub expect-a-requires : goal.expect-a-requires
+pub returns-in_err-next : goal.returns-in_err-next
 unfolding item
-expect-a-requires c =
-    tt
-
-pub taken_refusal-requires : goal.taken_refusal-requires
-unfolding item
-taken_refusal-requires c =
-    tt
-
-pub returns-in_default : goal.returns-in_default
-unfolding item
-returns-in_default c s f b o h =
-    rw (c.taken_refusal.ensures, ← (c.expect-a.ensures s o h), c.in_default.is)
+returns-in_err-next c s f b o h =
+    rw (handed_on _ _ c.from_residual.ensures.1, ← (c.in_err-next.ensures s o h))
 
 pub returns : goal.returns
 unfolding item
 returns c s f b o h =
-    rw (← (c.expect-a.ensures s o h), c.in-Next.is)
+    rw (← (c.in_ok-next.ensures s o h))

@@ -8,11 +8,6 @@ unfolding item
 returns-then-lacks-lt256 c s f b e =
     rw (e, lt-ltb _ _ c.if-lacks-lt256.true)
 
-pub complain-requires : goal.complain-requires
-unfolding item
-complain-requires c =
-    tt
-
 pub returns : goal.returns
 unfolding item
 returns c s f b e =

@@ -2,10 +2,10 @@
 use borrow.Author.Tests.{eq-eqb, ne_eqb}
 use Rattle.parser.proofs.engine.owner_of.Goals as goal
 
-pub returns-then-b-eq-LIBRARY : goal.returns-then-b-eq-LIBRARY
-returns-then-b-eq-LIBRARY c s =
-    rw (eq-eqb _ 0 c.if-b-eq-LIBRARY.true)
+pub returns-then-f-eq-LIBRARY : goal.returns-then-f-eq-LIBRARY
+returns-then-f-eq-LIBRARY c s =
+    rw (eq-eqb _ 0 c.if-f-eq-LIBRARY.true)
 
 pub returns : goal.returns
 returns c s =
-    rw (ne_eqb _ 0 c.if-b-eq-LIBRARY.false)
+    rw (ne_eqb _ 0 c.if-f-eq-LIBRARY.false)

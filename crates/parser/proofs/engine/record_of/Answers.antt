@@ -5,20 +5,8 @@ use mathlib.Core.List.{[]}
 use native.Mathlib.Omega.{arith}
 use Rattle.parser.proofs.engine.record_of.Goals as goal
 
-pub owner_of-requires : goal.owner_of-requires
-owner_of-requires c =
-    tt
-
-pub within-requires : goal.within-requires
-within-requires c =
-    tt
-
-pub of-requires : goal.of-requires
-of-requires c =
-    tt
-
 pub returns : goal.returns
 returns c =
     let g = c.args in
     let n : g.d.name + 0 ≡ g.d.name = omega arith in
-    rw (c.of.ensures, c.within.ensures, c.owner_of.ensures [], n)
+    rw (c.of.ensures, c.part.ensures, c.owner_of.ensures [], n)

@@ -1,7 +1,7 @@
 -- `parser::items::asked` meets its contract: the items by the ranges of their bytes.
-use Prim.Native.Nat.{◌-◌}
-use Rattle.rows.specs.Packed.{key_at}
+use Rattle.grammar.specs.Engine.{item}
 use Rattle.rows.proofs.Ranges.{at_key}
+use Rattle.parser.proofs.Listed.{unset_flat}
 use Rattle.parser.proofs.items.asked.Goals as goal
 
 pub returns-then-it-lt-STRING : goal.returns-then-it-lt-STRING
@@ -13,7 +13,8 @@ returns-then-it-lt-KEY c f b o h z =
     c.spelt.ensures f b o h
 
 pub returns : goal.returns
+unfolding item
 returns c f b o h z =
-    let n = c.args.it in
-    let g = c.if-it-lt-KEY.false in
-    rw (at_key n g) (c.to_key.ensures f b o (key_at (n - 128)) h (c.key_of.ensures g))
+    let g = c.args in
+    let k = c.if-it-lt-KEY.false in
+    rw (c.unchanged.ensures g.lent.now.now b, c.expect_key.ensures o h, at_key g.it k, c.key_of.ensures k) (unset_flat g.lent.now.now b g.d _)

@@ -1,6 +1,7 @@
 -- `parser::items::passed` meets its contract: only `if_more` passes items over.
 use mathlib.Core.Path.{sym}
-use borrow.Author.Tests.{eq-eqb, ne_eqb}
+use Rattle.lexer.specs.declared.Kind.{Kind}
+use Rattle.lexer.proofs.Kinded.{kind_test}
 use Rattle.rows.proofs.Ranges.{at_more, low_passes_none, high_passes_none}
 use Rattle.parser.proofs.items.passed.Goals as goal
 
@@ -12,10 +13,10 @@ pub returns-then-it-ge-WHOLE : goal.returns-then-it-ge-WHOLE
 returns-then-it-ge-WHOLE c s =
     sym (high_passes_none _ _ c.if-it-ge-WHOLE.true)
 
-pub returns-then-k-eq-SEMICOLON : goal.returns-then-k-eq-SEMICOLON
-returns-then-k-eq-SEMICOLON c s =
-    rw (at_more _ c.if-it-lt-IF_MORE.false c.if-it-ge-WHOLE.false, eq-eqb _ 3 c.if-k-eq-SEMICOLON.true)
+pub returns-then-eq : goal.returns-then-eq
+returns-then-eq c s =
+    rw (at_more _ c.if-it-lt-IF_MORE.false c.if-it-ge-WHOLE.false, kind_test _ Kind.SemiColon c.eq.ensures c.if-eq.true)
 
-pub returns-else-k-eq-SEMICOLON : goal.returns-else-k-eq-SEMICOLON
-returns-else-k-eq-SEMICOLON c s =
-    rw (at_more _ c.if-it-lt-IF_MORE.false c.if-it-ge-WHOLE.false, ne_eqb _ 3 c.if-k-eq-SEMICOLON.false)
+pub returns-else-eq : goal.returns-else-eq
+returns-else-eq c s =
+    rw (at_more _ c.if-it-lt-IF_MORE.false c.if-it-ge-WHOLE.false, kind_test _ Kind.SemiColon c.eq.ensures c.if-eq.false)

@@ -4,20 +4,12 @@ use Rattle.parser.proofs.Acts.{part_low, end_low}
 use Rattle.parser.proofs.Chosen.{counted_end, counted_part}
 use Rattle.parser.proofs.step.counted.Goals as goal
 
-pub end_of-requires : goal.end_of-requires
-end_of-requires c =
-    tt
-
-pub returns-then-lacks-lt256 : goal.returns-then-lacks-lt256
-returns-then-lacks-lt256 c =
+pub returns-then-f-lt256 : goal.returns-then-f-lt256
+returns-then-f-lt256 c =
     let g = c.args in
-    record { of = (λ z s v. counted_end s v g.f g.held _ _ z c.if-lacks-lt256.true c.end_of.ensures); low = (λ z. end_low _ _ 4 c.end_of.ensures) }
-
-pub part_of-requires : goal.part_of-requires
-part_of-requires c =
-    tt
+    record { of = (λ z s v. counted_end s v g.f g.held _ _ z c.if-f-lt256.true c.end_of.ensures); low = (λ z. end_low _ _ 4 c.end_of.ensures) }
 
 pub returns : goal.returns
 returns c =
     let g = c.args in
-    record { of = (λ z s v. counted_part s v g.f g.held _ _ z c.if-lacks-lt256.false c.part_of.ensures); low = (λ z. part_low _ _ g.f.block c.part_of.ensures (omega arith)) }
+    record { of = (λ z s v. counted_part s v g.f g.held _ _ z c.if-f-lt256.false c.part_of.ensures); low = (λ z. part_low _ _ g.f.block c.part_of.ensures (omega arith)) }

@@ -1,8 +1,15 @@
 -- `parser::step::spoken` meets its contract: the `;` ends options, and all else is a word that is taken.
-use mathlib.Core.Path.{◌≡◌, refl, sym, ◌∙◌}
+use mathlib.Core.Path.{◌≡◌, refl, sym, ap, ◌∙◌}
 use mathlib.Core.Bool.{Bool, true, false, not, ◌&&◌, ◌||◌}
 use lib.Dec.{eqb}
-use Rattle.parser.proofs.Chosen.{another, end_refused, end_goes}
+use denote.Enum.Bare.{sameb}
+use Rattle.lexer.specs.contracts.Kind.{the_type}
+use Rattle.lexer.specs.declared.Kind.{Kind}
+use Rattle.lexer.specs.Kinds.{number_of}
+use Rattle.lexer.proofs.Kinded.{by_number}
+use Rattle.std.proofs.Common.{Err}
+use Rattle.parser.proofs.Exits.{handed_on}
+use Rattle.parser.proofs.Chosen.{another, no_more, end_goes}
 use Rattle.parser.proofs.step.spoken.Goals as goal
 
 -- the test, and what the definition tests
@@ -16,44 +23,25 @@ is_over true true h = refl
 is_over true false h = sym h
 is_over false b h = sym h
 
-pub form_of-form-requires : goal.form_of-form-requires
-form_of-form-requires c =
-    tt
+by_kind : {r b : Bool} (a : Bool) (k : Kind) → r ≡ not (sameb the_type k Kind.SemiColon) → (not a || r) ≡ b → (not a || not (eqb (number_of k) 3)) ≡ b
+by_kind a k e h = ap (λ t. not a || not t) (sym (by_number k Kind.SemiColon)) ∙ ap (λ t. not a || t) (sym e) ∙ h
 
-pub worded-requires : goal.worded-requires
-worded-requires c =
-    tt
-
-pub returns-then-form-kind : goal.returns-then-form-kind
-returns-then-form-kind c =
+pub returns-then-form-ne : goal.returns-then-form-ne
+returns-then-form-ne c =
     let g = c.args in
-    let e = c.form_of-form.ensures in record { of = (λ x y z. c.worded.ensures.of ∙ another g.lent.now.now g.version g.f g.held x y z (rw (← e) (not_over (eqb c.form_of-form.result 2) (eqb g.held.kind 3) c.if-form-kind.true))); low = c.worded.ensures.low }
+    let e = c.form_of-form.ensures in record { of = (λ x y z. c.worded.ensures.of ∙ another g.lent.now.now g.version g.f g.held x y z (rw (← e) (not_over (eqb c.form_of-form.result 2) (eqb (number_of g.held.kind) 3) (by_kind _ _ c.ne.ensures c.if-form-ne.true)))); low = c.worded.ensures.low }
 
-pub next_token-a-requires : goal.next_token-a-requires
-next_token-a-requires c =
-    tt
-
-pub taken_refusal-requires : goal.taken_refusal-requires
-taken_refusal-requires c =
-    tt
-
-pub returns-in_default : goal.returns-in_default
-returns-in_default c =
-    let t = c in
-    let e = t.form_of-form.ensures in
-    let g = t.args in record {
-      of = (λ x y z. rw (c.taken_refusal.ensures, c.in_default.is)
-          (end_refused g.lent.now.now g.version g.f g.held x y z (rw (← e) (is_over (eqb t.form_of-form.result 2) (eqb g.held.kind 3) t.if-form-kind.false)) _ t.next_token-a.ensures _ c.in_default.is));
+pub returns-in_err-next : goal.returns-in_err-next
+returns-in_err-next c =
+    let e = c.form_of-form.ensures in
+    let g = c.args in
+    rw (handed_on _ _ c.from_residual.ensures.1) (record {
+      of = (λ x y z. no_more g.lent.now.now g.version g.f g.held x y z (rw (← e) (is_over (eqb c.form_of-form.result 2) (eqb (number_of g.held.kind) 3) (by_kind _ _ c.ne.ensures c.if-form-ne.false))) (Err c.in_err-next.field-0.0) c.in_err-next.ensures);
       low = tt;
-    }
-
-pub after_options-requires : goal.after_options-requires
-after_options-requires c =
-    tt
+    })
 
 pub returns : goal.returns
 returns c =
-    let t = c in
-    let e = t.form_of-form.ensures in
-    let g = t.args in
-    record { of = (λ x y z. end_goes g.lent.now.now g.version g.f g.held x y z (rw (← e) (is_over (eqb t.form_of-form.result 2) (eqb g.held.kind 3) t.if-form-kind.false)) _ t.next_token-a.ensures _ _ c.in-Next.is c.after_options.ensures); low = tt }
+    let e = c.form_of-form.ensures in
+    let g = c.args in
+    record { of = (λ x y z. end_goes g.lent.now.now g.version g.f g.held x y z (rw (← e) (is_over (eqb c.form_of-form.result 2) (eqb (number_of g.held.kind) 3) (by_kind _ _ c.ne.ensures c.if-form-ne.false))) _ _ c.in_ok-next.ensures c.after_options.ensures); low = tt }

@@ -9,10 +9,6 @@ pub returns-then-act-eq-BACK : goal.returns-then-act-eq-BACK
 returns-then-act-eq-BACK c =
     record { of = (λ s f held. rw (eq-eqb _ 66 c.if-act-eq-BACK.true)); low = tt }
 
-pub complain-requires : goal.complain-requires
-complain-requires c =
-    tt
-
 pub returns-then-act-lt-REFUSE : goal.returns-then-act-lt-REFUSE
 returns-then-act-lt-REFUSE c =
     let act = c.args.act in

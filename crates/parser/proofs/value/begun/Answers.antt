@@ -10,10 +10,6 @@ returns-then-begins c s b =
     let e : w % 256 ≡ w = omega arith in
     rw (c.if-begins.true, e)
 
-pub complain-requires : goal.complain-requires
-complain-requires c =
-    tt
-
 pub returns : goal.returns
 returns c s b =
     rw (c.complain.ensures, c.if-begins.false)

@@ -1,41 +1,14 @@
 -- `parser::value::to_first` meets its contract: the number of the word taken, if a value of the kind begins with it.
-use Rattle.grammar.specs.Engine.{item}
+use Rattle.parser.specs.Drafts.{draft_of}
 use Rattle.parser.proofs.Begins.{flatly_either}
+use Rattle.parser.proofs.Exits.{handed_on}
+use Rattle.parser.proofs.Taking.{first_of_word}
 use Rattle.parser.proofs.value.to_first.Goals as goal
 
-pub get_name-a-requires : goal.get_name-a-requires
-unfolding item
-get_name-a-requires c =
-    tt
-
-pub taken_refusal-requires : goal.taken_refusal-requires
-unfolding item
-taken_refusal-requires c =
-    tt
-
-pub returns-in_default : goal.returns-in_default
-unfolding item
-returns-in_default c f b o h e =
-    rw (c.taken_refusal.ensures, ← (c.get_name-a.ensures _ o h), c.in_default.is)
-
-pub word_in-w-requires : goal.word_in-w-requires
-unfolding item
-word_in-w-requires c =
-    tt
-
-pub begins-requires : goal.begins-requires
-unfolding item
-begins-requires c =
-    tt
-
-pub begun-requires : goal.begun-requires
-unfolding item
-begun-requires c =
-    tt
+pub returns-in_err-w : goal.returns-in_err-w
+returns-in_err-w c f b o h e =
+    rw (handed_on _ _ c.from_residual.ensures.1, first_of_word o f (draft_of c.args.lent.now.now b c.args.d), ← (c.in_err-w.ensures o h))
 
 pub returns : goal.returns
-unfolding item
 returns c f b o h e =
-    let w = c in
-    let a = w in
-    rw (c.begun.ensures _ b, e, ← (a.get_name-a.ensures _ o h), a.in-Next.is, ← w.word_in-w.ensures, ← c.begins.ensures, flatly_either)
+    rw (c.begun.ensures _ b, first_of_word o f (draft_of c.args.lent.now.now b c.args.d), e, ← (c.in_ok-w.ensures o h), ← c.begins.ensures, flatly_either)

@@ -3,16 +3,6 @@ use Rattle.word.specs.Codes.{code_of, values_of}
 use Rattle.parser.proofs.Begins.{alone_or_first}
 use Rattle.parser.proofs.words.begins.Goals as goal
 
-pub code_of-requires : goal.code_of-requires
-unfolding code_of
-code_of-requires c =
-    tt
-
-pub goes_on-requires : goal.goes_on-requires
-unfolding code_of
-goes_on-requires c =
-    tt
-
 pub returns : goal.returns
 unfolding code_of
 returns c =

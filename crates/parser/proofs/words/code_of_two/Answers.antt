@@ -6,10 +6,6 @@ pub returns-then-v-eq0 : goal.returns-then-v-eq0
 returns-then-v-eq0 c =
     rw (eq-eqb _ _ c.if-v-eq0.true)
 
-pub code_of-requires : goal.code_of-requires
-code_of-requires c =
-    tt
-
 pub returns : goal.returns
 returns c =
     rw (ne_eqb _ _ c.if-v-eq0.false, c.code_of.ensures)

@@ -5,7 +5,3 @@ use Rattle.reader.proofs.open.counting.Goals as goal
 pub returns-then-f-lt256 : goal.returns-then-f-lt256
 returns-then-f-lt256 c s =
     let a = c.args in rw (← (by_none a.kind a.f.lacks c.if-f-lt256.true).0)
-
-pub returns-else-f-lt256 : goal.returns-else-f-lt256
-returns-else-f-lt256 c s =
-    rw c.without.ensures.of

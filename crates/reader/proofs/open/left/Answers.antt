@@ -6,4 +6,4 @@ use Rattle.reader.proofs.open.left.Goals as goal
 
 pub returns : goal.returns
 returns c s =
-    let a = c.args in rw c.at_depth.ensures (ap (T.state a.o.version) (outermost_off s a.o.depth a.outer.now c.requires.0))
+    let a = c.args in ap (T.state a.o.version) (outermost_off s a.o.depth a.outer.now c.requires.0)

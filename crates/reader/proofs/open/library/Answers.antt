@@ -1,5 +1,4 @@
 -- `reader::open::library` meets its contract: its numbers are computed.
-use mathlib.Core.Path.{refl}
 use Rattle.rows.specs.Packed.{block_of, kinds_in, kinds_of}
 use Rattle.reader.specs.Open.{frames_in}
 use Rattle.reader.proofs.open.library.Goals as goal
@@ -7,4 +6,4 @@ use Rattle.reader.proofs.open.library.Goals as goal
 pub returns : goal.returns
 unfolding block_of kinds_in kinds_of frames_in
 returns c s o =
-    refl
+    rw c.nowhere.ensures

@@ -1,6 +1,7 @@
 -- `reader::pass::pass` meets its contract: every turn keeps what is read in all, and takes a token or leaves a block.
-use mathlib.Core.Path.{refl, ◌∙◌}
+use mathlib.Core.Path.{refl, ap, ◌∙◌}
 use native.Mathlib.Omega.{arith}
+use Rattle.std.specs.Prelude.{Ok}
 use Rattle.file.proofs.Laws.{stored_length}
 use Rattle.reader.proofs.Turning.{sound_depth}
 use Rattle.reader.proofs.Tally.{none_yet, one_more, no_more, over, refused}
@@ -9,7 +10,7 @@ use Rattle.reader.proofs.pass.pass.Goals as goal
 
 pub loop-n-init : goal.loop-n-init
 loop-n-init c =
-    let a = c in rw c.spread-outer.ensures (none_yet a.args.text.now a.args.start a.args.file.now a.requires, omega arith, refl, refl)
+    let a = c in (none_yet a.args.text.now a.args.start a.args.file.now a.requires, omega arith, refl)
 
 pub overflow_add-n : goal.overflow_add-n
 overflow_add-n c =
@@ -18,64 +19,64 @@ overflow_add-n c =
 pub shift-open-requires : goal.shift-open-requires
 shift-open-requires c =
     let l = c.loop-n in let a = c in let s = a.args.text.now in let i = c.step_in in
-    (room s l.held l.«open» l.outer l.invariant.0.sound i.result i.ensures _ _ _ c.in-Gives.is, l.invariant.3)
+    room s l.held l.«open» l.outer l.invariant.0.sound i.result i.ensures _ _ _ (c.in-Ok-Gives.is ∙ ap Ok c.in-Ok-Gives.field-0-is)
 
-pub loop-n-smaller-in-Gives : goal.loop-n-smaller-in-Gives
-loop-n-smaller-in-Gives c =
+pub loop-n-smaller-in-Ok-Gives : goal.loop-n-smaller-in-Ok-Gives
+loop-n-smaller-in-Ok-Gives c =
     let l = c.loop-n in let a = c in let s = a.args.text.now in let i = c.step_in in
-    let e = emits s l.held l.«open» l.outer l.invariant.0.sound i.result i.ensures _ _ _ c.in-Gives.is c.shift-open.result _ c.shift-open.ensures.shifted in
+    let e = emits s l.held l.«open» l.outer l.invariant.0.sound i.result i.ensures _ _ _ (c.in-Ok-Gives.is ∙ ap Ok c.in-Ok-Gives.field-0-is) c.shift-open.result _ c.shift-open.ensures in
     e.falls
 
-pub loop-n-preserved-in-Gives : goal.loop-n-preserved-in-Gives
-loop-n-preserved-in-Gives c =
+pub loop-n-preserved-in-Ok-Gives : goal.loop-n-preserved-in-Ok-Gives
+loop-n-preserved-in-Ok-Gives c =
     let l = c.loop-n in let a = c in let s = a.args.text.now in let i = c.step_in in
-    let e = emits s l.held l.«open» l.outer l.invariant.0.sound i.result i.ensures _ _ _ c.in-Gives.is c.shift-open.result _ c.shift-open.ensures.shifted in
+    let e = emits s l.held l.«open» l.outer l.invariant.0.sound i.result i.ensures _ _ _ (c.in-Ok-Gives.is ∙ ap Ok c.in-Ok-Gives.field-0-is) c.shift-open.result _ c.shift-open.ensures in
     let p = c.put.ensures.file_after in
-    (rw p (one_more s _ _ _ _ _ l.invariant.0 _ _ e), omega (arith, l.invariant.1, c.if-n-most.false), rw p (stored_length _ _ _ ∙ l.invariant.2), c.shift-open.ensures.sized)
+    (rw p (one_more s _ _ _ _ _ l.invariant.0 _ _ e), omega (arith, l.invariant.1, c.if-n-most.false), rw p (stored_length _ _ _ ∙ l.invariant.2))
 
 pub left-open-requires : goal.left-open-requires
 left-open-requires c =
     let l = c.loop-n in (omega (arith, c.if-open-eq0.false), omega (arith, sound_depth c.args.text.now l.held l.«open» l.outer l.invariant.0.sound))
 
-pub loop-n-smaller-in-Ends : goal.loop-n-smaller-in-Ends
-loop-n-smaller-in-Ends c =
+pub loop-n-smaller-in-Ok-Ends : goal.loop-n-smaller-in-Ok-Ends
+loop-n-smaller-in-Ok-Ends c =
     let l = c.loop-n in let a = c in let s = a.args.text.now in let i = c.step_in in
-    let e = ends s l.held l.«open» l.outer l.invariant.0.sound i.result i.ensures c.left-open.result c.left-open.ensures _ c.in-Ends.is (omega (arith, c.if-open-eq0.false)) in
+    let e = ends s l.held l.«open» l.outer l.invariant.0.sound i.result i.ensures c.left-open.result c.left-open.ensures _ (c.in-Ok-Ends.is ∙ ap Ok c.in-Ok-Ends.field-0-is) (omega (arith, c.if-open-eq0.false)) in
     e.falls
 
-pub loop-n-preserved-in-Ends : goal.loop-n-preserved-in-Ends
-loop-n-preserved-in-Ends c =
+pub loop-n-preserved-in-Ok-Ends : goal.loop-n-preserved-in-Ok-Ends
+loop-n-preserved-in-Ok-Ends c =
     let l = c.loop-n in let a = c in let s = a.args.text.now in let i = c.step_in in
-    let e = ends s l.held l.«open» l.outer l.invariant.0.sound i.result i.ensures c.left-open.result c.left-open.ensures _ c.in-Ends.is (omega (arith, c.if-open-eq0.false)) in
-    (no_more s _ _ _ _ _ l.invariant.0 _ e, l.invariant.1, l.invariant.2, l.invariant.3)
+    let e = ends s l.held l.«open» l.outer l.invariant.0.sound i.result i.ensures c.left-open.result c.left-open.ensures _ (c.in-Ok-Ends.is ∙ ap Ok c.in-Ok-Ends.field-0-is) (omega (arith, c.if-open-eq0.false)) in
+    (no_more s _ _ _ _ _ l.invariant.0 _ e, l.invariant.1, l.invariant.2)
 
-pub loop-n-smaller-in-Goes : goal.loop-n-smaller-in-Goes
-loop-n-smaller-in-Goes c =
+pub loop-n-smaller-in-Ok-Goes : goal.loop-n-smaller-in-Ok-Goes
+loop-n-smaller-in-Ok-Goes c =
     let l = c.loop-n in let a = c in let s = a.args.text.now in let i = c.step_in in
-    let e = goes s l.held l.«open» l.outer l.invariant.0.sound i.result i.ensures _ _ c.in-Goes.is c.turned-open.result c.turned-open.ensures in
+    let e = goes s l.held l.«open» l.outer l.invariant.0.sound i.result i.ensures _ _ (c.in-Ok-Goes.is ∙ ap Ok c.in-Ok-Goes.field-0-is) c.turned-open.result c.turned-open.ensures in
     e.falls
 
-pub loop-n-preserved-in-Goes : goal.loop-n-preserved-in-Goes
-loop-n-preserved-in-Goes c =
+pub loop-n-preserved-in-Ok-Goes : goal.loop-n-preserved-in-Ok-Goes
+loop-n-preserved-in-Ok-Goes c =
     let l = c.loop-n in let a = c in let s = a.args.text.now in let i = c.step_in in
-    let e = goes s l.held l.«open» l.outer l.invariant.0.sound i.result i.ensures _ _ c.in-Goes.is c.turned-open.result c.turned-open.ensures in
-    (no_more s _ _ _ _ _ l.invariant.0 _ e, l.invariant.1, l.invariant.2, l.invariant.3)
+    let e = goes s l.held l.«open» l.outer l.invariant.0.sound i.result i.ensures _ _ (c.in-Ok-Goes.is ∙ ap Ok c.in-Ok-Goes.field-0-is) c.turned-open.result c.turned-open.ensures in
+    (no_more s _ _ _ _ _ l.invariant.0 _ e, l.invariant.1, l.invariant.2)
 
-pub left-open-requires-in-Back : goal.left-open-requires-in-Back
-left-open-requires-in-Back c =
+pub left-open-requires-in-Ok-Back : goal.left-open-requires-in-Ok-Back
+left-open-requires-in-Ok-Back c =
     let l = c.loop-n in (omega (arith, c.if-open-eq0-2.false), omega (arith, sound_depth c.args.text.now l.held l.«open» l.outer l.invariant.0.sound))
 
 pub loop-n-smaller : goal.loop-n-smaller
 loop-n-smaller c =
     let l = c.loop-n in let a = c in let s = a.args.text.now in let i = c.step_in in
-    let e = backs s l.held l.«open» l.outer l.invariant.0.sound i.result i.ensures c.left-open-in-Back.result c.left-open-in-Back.ensures c.in-Back.is (omega (arith, c.if-open-eq0-2.false)) in
+    let e = backs s l.held l.«open» l.outer l.invariant.0.sound i.result i.ensures c.left-open-in-Ok-Back.result c.left-open-in-Ok-Back.ensures (c.in-Ok-Back.is ∙ ap Ok c.in-Ok-Back.field-0-is) (omega (arith, c.if-open-eq0-2.false)) in
     e.falls
 
 pub loop-n-preserved : goal.loop-n-preserved
 loop-n-preserved c =
     let l = c.loop-n in let a = c in let s = a.args.text.now in let i = c.step_in in
-    let e = backs s l.held l.«open» l.outer l.invariant.0.sound i.result i.ensures c.left-open-in-Back.result c.left-open-in-Back.ensures c.in-Back.is (omega (arith, c.if-open-eq0-2.false)) in
-    (no_more s _ _ _ _ _ l.invariant.0 _ e, l.invariant.1, l.invariant.2, l.invariant.3)
+    let e = backs s l.held l.«open» l.outer l.invariant.0.sound i.result i.ensures c.left-open-in-Ok-Back.result c.left-open-in-Ok-Back.ensures (c.in-Ok-Back.is ∙ ap Ok c.in-Ok-Back.field-0-is) (omega (arith, c.if-open-eq0-2.false)) in
+    (no_more s _ _ _ _ _ l.invariant.0 _ e, l.invariant.1, l.invariant.2)
 
 pub shape_of-file-then-n-most : goal.shape_of-file-then-n-most
 shape_of-file-then-n-most c =
@@ -83,7 +84,7 @@ shape_of-file-then-n-most c =
 
 pub returns-then-n-most : goal.returns-then-n-most
 returns-then-n-most c =
-    rw (c.gathered-around.ensures, ← c.if-n-most.true) (rw c.spread-outer.ensures at c.loop-n.invariant.0)
+    rw (← c.if-n-most.true) c.loop-n.invariant.0
 
 pub shape_of-file-then-open-eq0 : goal.shape_of-file-then-open-eq0
 shape_of-file-then-open-eq0 c =
@@ -92,7 +93,7 @@ shape_of-file-then-open-eq0 c =
 pub returns-then-open-eq0 : goal.returns-then-open-eq0
 returns-then-open-eq0 c =
     let l = c.loop-n in let a = c in let s = a.args.text.now in let i = c.step_in in
-    over s a.args.start _ _ _ _ (rw c.spread-outer.ensures at l.invariant.0) _ l.invariant.1 (lasts s l.held l.«open» l.outer l.invariant.0.sound i.result i.ensures _ c.in-Ends.is c.if-open-eq0.true)
+    over s a.args.start _ _ _ _ l.invariant.0 _ l.invariant.1 (lasts s l.held l.«open» l.outer l.invariant.0.sound i.result i.ensures _ (c.in-Ok-Ends.is ∙ ap Ok c.in-Ok-Ends.field-0-is) c.if-open-eq0.true)
 
 pub shape_of-file-then-open-eq0-2 : goal.shape_of-file-then-open-eq0-2
 shape_of-file-then-open-eq0-2 c =
@@ -101,13 +102,13 @@ shape_of-file-then-open-eq0-2 c =
 pub returns-then-open-eq0-2 : goal.returns-then-open-eq0-2
 returns-then-open-eq0-2 c =
     let l = c.loop-n in let a = c in let s = a.args.text.now in let i = c.step_in in
-    over s a.args.start _ _ _ _ (rw c.spread-outer.ensures at l.invariant.0) _ l.invariant.1 (back_lasts s l.held l.«open» l.outer l.invariant.0.sound i.result i.ensures c.in-Back.is c.if-open-eq0-2.true)
+    over s a.args.start _ _ _ _ l.invariant.0 _ l.invariant.1 (back_lasts s l.held l.«open» l.outer l.invariant.0.sound i.result i.ensures (c.in-Ok-Back.is ∙ ap Ok c.in-Ok-Back.field-0-is) c.if-open-eq0-2.true)
 
-pub shape_of-file-in-Refused : goal.shape_of-file-in-Refused
-shape_of-file-in-Refused c =
+pub shape_of-file-in-Err : goal.shape_of-file-in-Err
+shape_of-file-in-Err c =
     c.loop-n.invariant.2
 
-pub returns-in-Refused : goal.returns-in-Refused
-returns-in-Refused c =
+pub returns-in-Err : goal.returns-in-Err
+returns-in-Err c =
     let l = c.loop-n in let a = c in let s = a.args.text.now in let i = c.step_in in
-    rw c.gathered-around-in-Refused.ensures (refused s a.args.start _ _ _ _ (rw c.spread-outer.ensures at l.invariant.0) a.args.most _ (stops s l.held l.«open» l.outer l.invariant.0.sound i.result i.ensures _ c.in-Refused.is))
+    refused s a.args.start _ _ _ _ l.invariant.0 a.args.most _ (stops s l.held l.«open» l.outer l.invariant.0.sound i.result i.ensures _ c.in-Err.is)

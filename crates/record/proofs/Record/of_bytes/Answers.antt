@@ -1,6 +1,7 @@
--- `Record::of_bytes` meets its contract: each field is the number that `little::number` reads at the field's offset.
-use mathlib.Core.Path.{◌∙◌}
-use Rattle.little.proofs.Laws.{one}
+-- `Record::of_bytes` meets its contract: each field is the number that stands at the field's offset.
+use mathlib.Core.Path.{◌≡◌}
+use lib.ListN.{get_or}
+use Rattle.std.proofs.Common.{rules}
 use Rattle.record.specs.Bytes.{decoded}
 use Rattle.record.proofs.Record.of_bytes.Goals as goal
 
@@ -9,14 +10,16 @@ unfolding decoded
 returns c i =
     let d = c in
     let bytes = d.args.bytes.now in
+    let kind : d.unwrap_or.result ≡ get_or bytes 0 0 = search rules in
+    let code : d.unwrap_or-2.result ≡ get_or bytes 1 0 = search rules in
     record {
-      kind = (d.number.ensures.eq ∙ one 0 bytes) i;
-      code = (d.number-2.ensures.eq ∙ one 1 bytes) i;
-      spare = d.number-3.ensures.eq i;
-      at = d.number-4.ensures.eq i;
-      owner = d.number-5.ensures.eq i;
-      name = c.number-6.ensures.eq i;
-      len = c.number-7.ensures.eq i;
-      x = c.number-8.ensures.eq i;
-      y = c.number-9.ensures.eq i;
+      kind = kind i;
+      code = code i;
+      spare = d.number.ensures.eq i;
+      at = d.word32.ensures.eq i;
+      owner = d.word32-2.ensures.eq i;
+      name = c.word32-3.ensures.eq i;
+      len = c.word32-4.ensures.eq i;
+      x = c.word64.ensures i;
+      y = c.word64-2.ensures i;
     }

@@ -1,8 +1,7 @@
 -- `hex::bytes` meets its contract: each turn puts the byte of the next two digits, until there are none or no room.
-use borrow.Author.Tests.{ltb-true, ltb-false}
 use native.Mathlib.Omega.{arith}
 use Rattle.vectors.proofs.Laws.{pairs_more, pairs_end}
-use Rattle.vectors.proofs.Putting.{begun, more, all, full}
+use Rattle.vectors.proofs.Putting.{begun, more, over}
 use Rattle.vectors.proofs.hex.bytes.Goals as goal
 
 pub loop-n-init : goal.loop-n-init
@@ -11,17 +10,11 @@ loop-n-init c =
 
 pub loop-n-preserved : goal.loop-n-preserved
 loop-n-preserved c =
-    let a = c.args in
     let l = c.loop-n in
-    more l.invariant c.pair.result _ (ltb-true _ _ c.if-n-out.true-raw) (rw c.pair.ensures (pairs_more a.digits.now l.n (omega arith)))
+    more l.invariant c.pair.result _ (omega (arith, c.min-count.ensures, l.auto.out)) (rw c.pair.ensures (pairs_more c.args.digits.now l.n (omega (arith, c.min-count.ensures))))
 
-pub returns-else-n-out : goal.returns-else-n-out
-returns-else-n-out c =
-    let both = full c.loop-n.invariant (ltb-false _ _ c.if-n-out.false-raw) in
-    record { value = both.0; out_after = both.1 }
-
-pub returns-after-loop-n : goal.returns-after-loop-n
-returns-after-loop-n c =
-    let both = let l = c.loop-n in
-    all l.invariant (pairs_end c.args.digits.now l.n (omega arith)) in
-    record { value = both.0; out_after = both.1 }
+pub returns : goal.returns
+returns c =
+    let l = c.loop-n in
+    let both = over l.invariant (λ room. pairs_end c.args.digits.now l.n (omega (arith, c.min-count.ensures, l.auto.out, c.loop-n-test.false))) in
+    record { value = omega (arith, both.0, l.auto.n-end, c.loop-n-test.false); out_after = both.1 }

@@ -1,26 +1,28 @@
 -- `plain::bytes` meets its contract: each turn puts the first byte that is written from here on, until there is none or no room.
-use borrow.Author.Tests.{ltb-true, ltb-false}
+use Rattle.std.proofs.Common.{rules, ◌≡◌, []}
 use native.Mathlib.Omega.{arith}
-use Rattle.vectors.proofs.Laws.{meant_end}
+use Rattle.vectors.proofs.Laws.{meant_none}
 use Rattle.vectors.proofs.Putting.{begun, more, all, full}
 use Rattle.vectors.proofs.plain.bytes.Goals as goal
 
-pub loop-i-init : goal.loop-i-init
-loop-i-init c =
-    (omega arith, begun _ _)
+pub loop-n-init : goal.loop-n-init
+loop-n-init c =
+    begun _ _
 
-pub loop-i-preserved : goal.loop-i-preserved
-loop-i-preserved c =
-    let l = c.loop-i in
-    (c.first-first.ensures.2, more l.invariant.1 c.first-first.result.value _ (ltb-true _ _ c.if-n-out.true-raw) c.first-first.ensures.0)
+pub loop-n-preserved : goal.loop-n-preserved
+loop-n-preserved c =
+    more c.loop-n.invariant _ _ (omega (arith, c.loop-n-test.true, c.loop-n.auto.out)) c.in-Some.ensures.meant
 
-pub returns-else-n-out : goal.returns-else-n-out
-returns-else-n-out c =
-    let both = full c.loop-i.invariant.1 (ltb-false _ _ c.if-n-out.false-raw) in
-    record { value = both.0; out_after = both.1 }
+pub returns-in_default-clause-value : goal.returns-in_default-clause-value
+returns-in_default-clause-value c =
+    let none : c.loop-n.rest.now ≡ [] = search rules in
+    (all c.loop-n.invariant (rw none meant_none)).0
 
-pub returns-after-loop-i : goal.returns-after-loop-i
-returns-after-loop-i c =
-    let both = let l = c.loop-i in
-    all l.invariant.1 (meant_end c.args.written.now l.i (omega arith)) in
-    record { value = both.0; out_after = both.1 }
+pub returns-in_default-clause-out_after : goal.returns-in_default-clause-out_after
+returns-in_default-clause-out_after c =
+    let none : c.loop-n.rest.now ≡ [] = search rules in
+    (all c.loop-n.invariant (rw none meant_none)).1
+
+pub returns-clause-out_after : goal.returns-clause-out_after
+returns-clause-out_after c =
+    (full c.loop-n.invariant (omega (arith, c.loop-n-test.false, c.loop-n.auto.out))).1

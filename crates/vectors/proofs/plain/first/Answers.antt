@@ -1,44 +1,20 @@
 -- `plain::first` meets its contract: the tests say whether the byte is written as itself.
-use Prim.Native.Nat.{◌-◌, ◌<◌}
-use mathlib.Core.Path.{◌≡◌}
-use native.Mathlib.Omega.{arith}
-use lib.ListN.{length, get_or}
-use Rattle.vectors.proofs.Laws.{backslash, meant_escaped, meant_itself}
+use Rattle.std.proofs.Common.{rules, ◌≡◌, ◌∷◌}
+use Rattle.std.proofs.lemmas.List.{take_rest}
+use Rattle.vectors.proofs.Laws.{meant_escaped, meant_itself}
 use Rattle.vectors.proofs.plain.first.Goals as goal
+use Rattle.vectors.proofs.plain.first.Goals.{else-byte-eq92-via-then-byte-eq92+else-after-gt1, else-byte-eq92-via-else-byte-eq92}
 
--- in the first branch
-escape : (c : goal.After-shared_slice_known-then-written-i-1-unread) → let a = c.args in (2 < length a.written.now - a.i) × (get_or a.written.now a.i 0 ≡ 92)
-escape c =
-    let a = c.args in
-    backslash (length a.written.now - a.i) (get_or a.written.now a.i 0) c.if-written-i.true
+pub returns-then-after-gt1-clause-meant : goal.returns-then-after-gt1-clause-meant
+returns-then-after-gt1-clause-meant c =
+    let split : c.args.written.now ≡ c.in_ok-byte.byte.now ∷ c.in_ok-byte.after.now = search rules in
+    rw (split, c.pair.ensures, take_rest c.in_ok-byte.after.now 2) (meant_escaped c.in_ok-byte.byte.now c.in_ok-byte.after.now c.if-byte-eq92.true c.if-after-gt1.true)
 
--- in the first branch
-escape_after_shared_slice_known_then_written_i_2_1_unread : (c : goal.After-shared_slice_known-then-written-i-2-1-unread) → let a = c.args in (2 < length a.written.now - a.i) × (get_or a.written.now a.i 0 ≡ 92)
-escape_after_shared_slice_known_then_written_i_2_1_unread c =
-    let a = c.args in
-    backslash (length a.written.now - a.i) (get_or a.written.now a.i 0) c.if-written-i.true
-
--- in the first branch
-escape_after_pair : (c : goal.After-pair) → let a = c.args in (2 < length a.written.now - a.i) × (get_or a.written.now a.i 0 ≡ 92)
-escape_after_pair c =
-    let a = c.args in
-    backslash (length a.written.now - a.i) (get_or a.written.now a.i 0) c.if-written-i.true
-
-pub bounds-written-i-then-written-i : goal.bounds-written-i-then-written-i
-bounds-written-i-then-written-i c =
-    omega (arith, (escape c).0)
-
-pub bounds-written-i-then-written-i-2 : goal.bounds-written-i-then-written-i-2
-bounds-written-i-then-written-i-2 c =
-    omega (arith, (escape_after_shared_slice_known_then_written_i_2_1_unread c).0)
-
-pub returns-then-written-i : goal.returns-then-written-i
-returns-then-written-i c =
-    let a = c.args in
-    let e = escape_after_pair c in
-    (rw c.pair.ensures (meant_escaped a.written.now a.i (omega (arith, e.0)) e.1), omega arith, omega (arith, e.0))
-
-pub returns : goal.returns
-returns c =
-    let a = c.args in
-    (meant_itself a.written.now a.i (omega arith) c.if-written-i.false, omega arith, omega arith)
+pub returns-clause-meant : goal.returns-clause-meant
+returns-clause-meant c =
+    let split : c.args.written.now ≡ c.in_ok-byte.byte.now ∷ c.in_ok-byte.after.now = search rules in
+    rw split (meant_itself c.in_ok-byte.byte.now c.in_ok-byte.after.now (λ is.
+    elim c.else-byte-eq92.branch [
+      | else-byte-eq92-via-then-byte-eq92+else-after-gt1 w ↦ w.if-after-gt1.false
+      | else-byte-eq92-via-else-byte-eq92 w ↦ absurd (w.if-byte-eq92.false is)
+    ]))

@@ -4,7 +4,7 @@ use Rattle.writer.specs.Penned.{Ended}
 use Rattle.writer.proofs.pen.reach_owner.Given as goal
 
 abbrev pub invariant-loop-r : goal.invariant-loop-r
-invariant-loop-r l = Ended l.text l.initial.p.«open» l.outer (bare l.text l.r) l.initial.out l.initial.p.at l.p l.out
+invariant-loop-r l = Ended l.initial.page.text.now l.initial.open l.outer (bare l.initial.page.text.now l.r) l.initial.page l.«open» l.page
 
 abbrev pub decreases-loop-r : goal.decreases-loop-r
-decreases-loop-r l = l.p.«open».depth
+decreases-loop-r l = l.«open».depth

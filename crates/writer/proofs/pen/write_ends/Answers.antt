@@ -1,58 +1,55 @@
 -- `write_ends` meets its contract: the innermost block ends, until none is around it.
-use mathlib.Core.Path.{◌∙◌}
+use mathlib.Core.Path.{ap}
 use native.Mathlib.Omega.{arith}
+use Rattle.parser.specs.Kept.{frame_of}
 use Rattle.reader.specs.Open.{frames_in}
 use Rattle.reader.proofs.Stack.{frames_length}
+use Rattle.render.specs.Pieces.{text}
+use Rattle.render.specs.Lines.{closing}
+use Rattle.lines.proofs.Laws.{puts_as}
 use Rattle.writer.proofs.Ending.{shallow, fewer, closed_none, closed_more, closed_last}
 use Rattle.writer.proofs.pen.write_ends.Goals as goal
 
-pub loop-innermost-init : goal.loop-innermost-init
-loop-innermost-init c =
-    let s = c in
-    let a = s.args in
-    closed_none a.text.now a.outer.now (record { «open» = a.o; at = a.at }) _ (omega arith) s.requires
-
-pub write_closing-to-requires : goal.write_closing-to-requires
-write_closing-to-requires c =
-    let l = c.loop-innermost in
+pub loop-open-init : goal.loop-open-init
+loop-open-init c =
     let a = c.args in
-    omega (arith, shallow a.text.now l.p.«open» a.outer.now l.invariant.ranked)
+    closed_none a.page.now.text.now a.outer.now a.o a.page.now c.requires
 
-pub left-requires : goal.left-requires
-left-requires c =
-    let l = c.loop-innermost in
+pub write_closing-requires : goal.write_closing-requires
+write_closing-requires c =
+    let l = c.loop-open in
     let a = c.args in
-    (omega (arith, c.if-innermost-eq0.false), omega (arith, shallow a.text.now l.p.«open» a.outer.now l.invariant.ranked))
+    omega (arith, shallow a.page.now.text.now l.«open» a.outer.now l.invariant.ranked)
 
-pub loop-innermost-smaller : goal.loop-innermost-smaller
-loop-innermost-smaller c =
-    let l = c.loop-innermost in
+pub left-open-requires : goal.left-open-requires
+left-open-requires c =
+    let l = c.loop-open in
     let a = c.args in
-    fewer a.text.now l.p.«open» a.outer.now c.left.result (c.left.ensures a.text.now)
+    (omega (arith, c.if-open-eq0.false), omega (arith, shallow a.page.now.text.now l.«open» a.outer.now l.invariant.ranked))
 
-pub loop-innermost-preserved : goal.loop-innermost-preserved
-loop-innermost-preserved c =
-    let l = c.loop-innermost in
-    let s = c in
-    let t = s.args.text.now in
-    let outer = s.args.outer.now in
-    let d = l.p.«open».depth in
-    closed_more t outer _ _ _ l.p l.out l.invariant _ _ (c.write_closing-to.ensures (frames_in t d outer) (frames_length t d outer)) _ (c.left.ensures t)
+pub loop-open-smaller : goal.loop-open-smaller
+loop-open-smaller c =
+    let l = c.loop-open in
+    let a = c.args in
+    let s = a.page.now.text.now in
+    fewer s l.«open» a.outer.now c.left-open.result (c.left-open.ensures s)
 
-pub shape_of-out : goal.shape_of-out
-shape_of-out c =
-    let l = c.loop-innermost in
-    let s = c in
-    let t = s.args.text.now in
-    let outer = s.args.outer.now in
-    let d = l.p.«open».depth in
-    (c.write_closing-to.ensures (frames_in t d outer) (frames_length t d outer)).room ∙ l.invariant.put.room
+pub loop-open-preserved : goal.loop-open-preserved
+loop-open-preserved c =
+    let l = c.loop-open in
+    let a = c.args in
+    let s = a.page.now.text.now in
+    let o = l.«open» in
+    let fs = frames_in s o.depth a.outer.now in
+    closed_more s a.outer.now _ _ o l.page l.invariant _
+    (puts_as (ap (λ t. text (closing (frame_of t o.inner) fs)) l.invariant.put.of) (c.write_closing.ensures fs (frames_length s o.depth a.outer.now))) _ (c.left-open.ensures s)
 
 pub returns : goal.returns
 returns c =
-    let l = c.loop-innermost in
-    let s = c in
-    let t = s.args.text.now in
-    let outer = s.args.outer.now in
-    let d = l.p.«open».depth in
-    closed_last t outer _ _ _ l.p l.out l.invariant _ _ (c.write_closing-to.ensures (frames_in t d outer) (frames_length t d outer)) c.if-innermost-eq0.true
+    let l = c.loop-open in
+    let a = c.args in
+    let s = a.page.now.text.now in
+    let o = l.«open» in
+    let fs = frames_in s o.depth a.outer.now in
+    closed_last s a.outer.now _ _ o l.page l.invariant _
+    (puts_as (ap (λ t. text (closing (frame_of t o.inner) fs)) l.invariant.put.of) (c.write_closing.ensures fs (frames_length s o.depth a.outer.now))) c.if-open-eq0.true

@@ -2,8 +2,8 @@
 use Rattle.writer.proofs.Ending.{Closed}
 use Rattle.writer.proofs.pen.write_ends.Given as goal
 
-abbrev pub invariant-loop-innermost : goal.invariant-loop-innermost
-invariant-loop-innermost l = Closed l.text l.initial.p.«open» l.outer l.initial.out l.initial.p.at l.p l.out
+abbrev pub invariant-loop-open : goal.invariant-loop-open
+invariant-loop-open l = Closed l.initial.page.text.now l.initial.open l.outer l.initial.page l.«open» l.page
 
-abbrev pub decreases-loop-innermost : goal.decreases-loop-innermost
-decreases-loop-innermost l = l.p.«open».depth
+abbrev pub decreases-loop-open : goal.decreases-loop-open
+decreases-loop-open l = l.«open».depth

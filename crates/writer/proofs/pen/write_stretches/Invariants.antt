@@ -6,7 +6,7 @@ use Rattle.writer.proofs.Going.{So}
 use Rattle.writer.proofs.pen.write_stretches.Given as goal
 
 abbrev pub invariant-loop-c : goal.invariant-loop-c
-invariant-loop-c l = So l.text l.initial.st l.st l.initial.out l.pen l.outer l.out × (length l.w ≡ length l.initial.w)
+invariant-loop-c l = So l.initial.page.text.now l.initial.st l.st l.initial.page l.«open» l.outer l.page × (length l.w ≡ length l.initial.w)
 
 abbrev pub decreases-loop-c : goal.decreases-loop-c
-decreases-loop-c l = length (rest_of l.text l.st.held)
+decreases-loop-c l = length (rest_of l.initial.page.text.now l.st.held)

@@ -1,9 +1,0 @@
--- `asking::long::index_room` has as many bytes as its type says, by the law on the length of a repetition.
-use mathlib.Core.Path.{sym}
-use Prim.Native.Nat.{ℕ}
-use lib.ListN.{length-replicate}
-use Rattle.asking.proofs.long.index_room.Goals as goal
-
-pub returns : goal.returns
-returns c =
-    sym (length-replicate {A = ℕ} 320016 0)

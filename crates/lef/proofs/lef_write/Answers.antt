@@ -1,0 +1,8 @@
+-- `lef_write` meets its contract: what the call hands out comes back.
+use Rattle.lef.proofs.Numbered.{write_back}
+use Rattle.lef.proofs.lef_write.Goals as goal
+
+pub returns-clause-line_after : goal.returns-clause-line_after
+returns-clause-line_after c =
+    let a = c.args in
+    rw (c.write.ensures.value, write_back a.text.now a.records.now _) at c.tell.ensures.line_after

@@ -1,7 +1,0 @@
--- `lines::line::end_statement` meets its contract: the semicolon, and the end of the line.
-use Rattle.lines.proofs.Pieced.{pieces_then, line_ends}
-use Rattle.lines.proofs.line.end_statement.Goals as goal
-
-pub returns : goal.returns
-returns c =
-    pieces_then _ _ c.next_semicolon-p.ensures (line_ends c.put_byte.ensures)

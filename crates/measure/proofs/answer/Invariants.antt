@@ -1,9 +1,0 @@
--- `measure::answer` ends: each turn of its loop leaves one time fewer.
-use Prim.Native.Nat.{◌-◌, ◌≤◌}
-use Rattle.measure.proofs.answer.Given as goal
-
-abbrev pub invariant-loop-i : goal.invariant-loop-i
-invariant-loop-i l = l.i ≤ l.times
-
-abbrev pub decreases-loop-i : goal.decreases-loop-i
-decreases-loop-i l = l.times - l.i

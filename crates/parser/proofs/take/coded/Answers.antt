@@ -1,0 +1,11 @@
+-- The code and 0, compared.
+use borrow.Author.Tests.{eq-eqb, ne_eqb}
+use Rattle.parser.proofs.take.coded.Goals as goal
+
+pub returns-then-code-eq0 : goal.returns-then-code-eq0
+returns-then-code-eq0 c s =
+    rw (c.complain.ensures, eq-eqb _ _ c.if-code-eq0.true)
+
+pub returns-else-code-eq0 : goal.returns-else-code-eq0
+returns-else-code-eq0 c s =
+    rw (ne_eqb _ _ c.if-code-eq0.false)
