@@ -1,4 +1,5 @@
 pub mod Laws
 pub mod Held
+mod Common
 pub mod Names
 pub mod Ordered

@@ -1,8 +1,22 @@
 // Which of two entries comes first: by owner, then by name bytes, then by `at`.
-ghost use Rattle.std.specs.Prelude.{◌≡◌};
-ghost use Rattle.entry.specs.Order.{alike, before, key, key_of, precedes};
+ghost use Rattle.std.specs.Prelude.{◌≡◌, ◌&&◌, ◌||◌, ltb};
+ghost use Rattle.entry.specs.Order.{ahead, alike, before, key, key_of, precedes};
+ghost use Rattle.entry.specs.Common.{common};
 
 use crate::Entry;
+
+// How many bytes from the front on two names have in common.
+fn common(a: &[u8], b: &[u8]) -> usize
+    ensures { result ≡ common a.now b.now }
+{
+    let shorter = a.len().min(b.len());
+    for i in 0..shorter {
+        if a[i] != b[i] {
+            return i;
+        }
+    }
+    shorter
+}
 
 // Whether two names are the same bytes.
 #[tactic(auto, using(crate::proofs::Names::alike_pointwise))]
@@ -12,15 +26,31 @@ pub fn alike(a: &[u8], b: &[u8]) -> bool
     a == b
 }
 
+// Whether a name comes before another, and of two that are alike the one `at` before the other.
+fn named_before(a: &[u8], at: usize, b: &[u8], other: usize) -> bool
+    ensures { result ≡ (ahead a.now b.now || (alike a.now b.now && ltb at other)) }
+{
+    let i = common(a, b);
+    if i < b.len() {
+        if i < a.len() {
+            return a[i] < b[i];
+        }
+        return true;
+    }
+    if i < a.len() {
+        return false;
+    }
+    at < other
+}
+
 // Whether an entry comes before what has the owner, the name and the `at`.
-#[tactic(auto, using(crate::proofs::Names::less_pair), unfolding(crate::specs::Order::before))]
 pub fn before(text: &[u8], e: Entry, owner: usize, name: &[u8], at: usize) -> bool
     ensures { result ≡ before (key_of text.now e) (key owner name.now at) }
 {
     if e.owner != owner {
         return e.owner < owner;
     }
-    (lookup::part(text, e.name, e.len), e.at) < (name, at)
+    named_before(lookup::part(text, e.name, e.len), e.at, name, at)
 }
 
 // Whether one entry comes before another.

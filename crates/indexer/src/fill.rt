@@ -44,7 +44,8 @@ fn is_entered(row: &[u8]) -> bool
 // The entry of a record.
 #[tactic(auto, unfolding(record::specs::Bytes::decoded))]
 fn entry_of(row: &[u8]) -> Entry
-    ensures { result ≡ entry_of (decoded row.now) }
+    ensures of { result ≡ entry_of (decoded row.now) }
+    ensures small { (result.owner < 4294967296) × (result.name < 4294967296) × (result.len < 4294967296) × (result.at < 4294967296) }
 {
     Entry {
         owner: little::word32(row, Record::OWNER),

@@ -96,26 +96,28 @@ pub fn lex_in(lent: &&[u8], at: usize, line: usize) -> Lexed
     let text = *lent;
     let mut i = at;
     let mut n = line;
-    while let Some(&b) = text.get(i) {
+    loop {
+        let Some(&b) = text.get(i) else {
+            break Lexed::End(n);
+        };
         match scan::class_of(b) {
-            Class::Letter => return lex_name(text, i, n),
+            Class::Letter => break lex_name(text, i, n),
             Class::Space => {
                 i += 1;
             }
-            Class::Digit => return lex_number(text, i, n),
-            Class::SemiColon => return emit(Kind::SemiColon, i, i + 1, n),
+            Class::Digit => break lex_number(text, i, n),
+            Class::SemiColon => break emit(Kind::SemiColon, i, i + 1, n),
             Class::NewLine => {
                 i = eight::blanks_past(text, i + 1);
                 n = lex_newline(n);
             }
-            Class::Quote => return lex_string_literal(text, i, n),
+            Class::Quote => break lex_string_literal(text, i, n),
             Class::Hash => {
                 i = lex_comment(text, i);
             }
-            Class::Other => return Lexed::Bad(i, n),
+            Class::Other => break Lexed::Bad(i, n),
         }
     }
-    Lexed::End(n)
 }
 
 // The same, where mostly a space, or a newline and a few blanks, and then a short token come next: that is found at once, and all

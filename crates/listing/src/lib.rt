@@ -2,83 +2,57 @@
 // speak: `list` has none, and `answer` says only what it returns.
 #![tactic(auto)]
 
-ghost use Rattle.std.specs.Prelude.{◌≡◌, IfOk, vec_len};
+ghost use Rattle.std.specs.Prelude.{◌≡◌};
 ghost use Rattle.std.specs.Result.{result_ok};
 
 use reader::reading;
 use record::Record;
 use refusal::Refusal;
-use std::alloc::{AllocError, Global};
-use std::{fmt, io};
+use std::fmt;
 use vectors::say::Answer;
 
 // The listing of a text: a record on a line, and then how many there are; or the refusal. What cannot be printed is lost.
-pub fn list(rt: &(impl Print + AllocGlobal), text: &[u8]) {
-    let _ = lines(rt, text);
-}
-
-fn lines(rt: &(impl Print + AllocGlobal), text: &[u8]) -> io::Result<()> {
-    let mut records = vec![in rt.alloc(); 0; 65520]?;
+pub fn list(rt: &impl Print, text: &[u8]) {
+    let mut records = [0; 65520];
     let read = reading::read(text, &mut records);
-    show(rt, read, &records, "\n")?;
-    if let Ok(count) = read {
+    if let Some(count) = answer(rt, read, &records, b"\n") {
         if count != 0 {
-            println!(rt)?;
+            let _ = rt.println("");
         }
-        print!(rt; "{count} records")?;
+        let _ = print!(rt; "{count} records");
     }
-    println!(rt)
+    let _ = rt.println("");
 }
 
 // The records that are read, with the mark between them, or the refusal. Says how many are read; what cannot be printed is lost.
 pub fn answer(
-    rt: &(impl Print + AllocGlobal),
+    rt: &impl Print,
     read: Result<usize, Refusal>,
     records: &[u8],
-    mark: &str,
+    mark: &[u8],
 ) -> Option<usize>
     ensures { result ≡ result_ok read }
 {
-    let _ = show(rt, read, records, mark);
+    match read {
+        Ok(count) => first(rt, count, records, mark),
+        Err(refusal) => {
+            let _ = print!(rt; "refusal {}", Answer(Err(refusal)));
+        }
+    }
     read.ok()
 }
 
-fn show(
-    rt: &(impl Print + AllocGlobal),
-    read: Result<usize, Refusal>,
-    records: &[u8],
-    mark: &str,
-) -> io::Result<()> {
-    match read {
-        Ok(count) => first(rt, count, records, mark),
-        Err(refusal) => print!(rt; "refusal {}", Answer(Err(refusal))),
-    }
-}
-
 // The records that are counted, with the mark between them.
-fn first(
-    rt: &(impl Print + AllocGlobal),
-    count: usize,
-    records: &[u8],
-    mark: &str,
-) -> io::Result<()> {
-    for (i, record) in counted(rt.alloc(), count, records)?.iter().enumerate() {
+fn first(rt: &impl Print, count: usize, records: &[u8], mark: &[u8]) {
+    for i in 0..count {
         if i != 0 {
-            rt.print(mark)?;
+            let _ = rt.write_all(mark);
         }
-        match record {
-            Some(r) => print!(rt; "{}", Listed(*r))?,
-            None => print!(rt; "past")?,
-        }
+        let _ = match file::read(records, i) {
+            Some(r) => print!(rt; "{}", Listed(r)),
+            None => print!(rt; "past"),
+        };
     }
-    Ok(())
-}
-
-// The records that are counted, each if it is there.
-fn counted(alloc: Global, count: usize, records: &[u8]) -> Result<Vec<Option<Record>>, AllocError>
-    ensures { IfOk result (λ v. vec_len v ≡ count) }
-{
-    (0..count).map(|i| file::read(records, i)).collect(alloc)
 }
 
 // Kind, code, place, owner or `-` for the library, name start, name length, x and y.

@@ -90,7 +90,8 @@ pub fn name<'a, 'b>(text: &'a [u8], file: &'b [u8], index: usize) -> &'a [u8]
 pub fn part(text: &[u8], start: usize, len: usize) -> &[u8]
     ensures { result.now ≡ part text.now start len }
 {
-    text.get(start..start.saturating_add(len)).unwrap_or(&[])
+    text.get(start..start.saturating_add(len))
+        .unwrap_or(&text[..0])
 }
 
 // The index of the first record that starts at the place.

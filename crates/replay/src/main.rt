@@ -119,7 +119,7 @@ fn code(rt: &impl Print, kind: u8, text: &[u8]) -> io::Result<()> {
 fn reading(rt: &(impl Print + AllocGlobal), text: &[u8]) -> io::Result<()> {
     let mut records = vec![in rt.alloc(); 0; Record::SIZE * RECORDS]?;
     let read = reading::read(text, &mut records);
-    listing::answer(rt, read, &records, ";");
+    listing::answer(rt, read, &records, b";");
     Ok(())
 }
 

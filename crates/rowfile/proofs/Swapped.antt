@@ -1,32 +1,33 @@
 -- Two rows that are exchanged: each is read where the other was, and all others where they were, so that the rows are the same in another order.
-use Prim.Native.Nat.{ℕ, zero, suc, ◌+◌, ◌*◌, ◌≤◌, ◌<◌}
+use Prim.Native.Nat.{ℕ, zero, suc, ◌+◌, ◌-◌, ◌*◌, ◌≤◌, ◌<◌}
 use mathlib.Core.Path.{◌≡◌, refl, sym, ap, subst, ◌∙◌}
 use mathlib.Core.Bool.{true}
 use mathlib.Core.Logic.{◌≢◌}
-use mathlib.Core.List.{List, [], ◌∷◌, ◌++◌, Permᴰ, append_assoc}
+use mathlib.Core.List.{List, [], ◌∷◌, Permᴰ}
 use native.Mathlib.Decide.{dec_lt, ℕ_discrete}
 use native.Mathlib.Nat.{le_of_suc-le-suc, div-zero}
+use native.Mathlib.Numerals.{add-one}
 use native.Mathlib.Omega.{arith}
 use borrow.Author.Tests.{lt-ltb}
-use lib.ListN.{length, take, drop, get_or, set, length-set, length-append, take-append-drop}
-use borrow.Rule.Slice.PartMut.{put_mid}
-use lib.Seq.{sets, sets-eq, set-append_left, take_at, drop-append-add, length-sets, length-take-le, drop-set-lt, get_or-set_same, get_or-set_other, ext_get_or}
+use lib.ListN.{length, drop, get_or, set, length-set, length-drop}
+use lib.Seq.{sets, set_comm, drop-cons, drop-set-lt, get_or-set_same, get_or-set_other, ext_get_or}
 use Rattle.rowfile.specs.Rows.{count, has_room, row_at, held, stored, swapped}
-use Rattle.rowfile.proofs.Parts.{part, in_file, apart, row_length}
+use Rattle.rowfile.proofs.Parts.{in_file, apart, row_byte, row_length}
 use Rattle.rowfile.proofs.Held.{held_length, held_at}
-use Rattle.rowfile.proofs.Stored.{sets_copied, stored_length, stored_sets, read_stored, read_other}
+use Rattle.rowfile.proofs.Stored.{stored_length, stored_sets, read_stored, read_other}
 
 -- RUNS OF STORES
 
--- a run in the first of two parts of a list, and one at the front of the second
-run_left : (xs l r : List ℕ) (p : ℕ) → p + length xs ≤ length l → sets (l ++ r) p xs ≡ sets l p xs ++ r
-run_left [] l r p h = refl
-run_left (x ∷ xs) l r p h =
-    ap (λ m. sets m (suc p) xs) (set-append_left l r p x (omega arith)) ∙ run_left xs (set l p x) r (suc p) (simp length-set (omega arith))
+-- a store past a run may come before it
+set_sets : (xs l : List ℕ) (p q y : ℕ) → p + length xs ≤ q → set (sets l p xs) q y ≡ sets (set l q y) p xs
+set_sets [] l p q y h = refl
+set_sets (x ∷ xs) l p q y h =
+    set_sets xs (set l p x) (suc p) q y (omega arith) ∙ ap (λ m. sets m (suc p) xs) (set_comm l p q x y (λ e. omega arith))
 
-run_right : (xs l r : List ℕ) (p : ℕ) → length l ≡ p → p + length xs ≤ length (l ++ r) → sets (l ++ r) p xs ≡ l ++ (xs ++ drop (length xs) r)
-run_right xs l r p e h =
-    sets-eq xs (l ++ r) p h ∙ rw (take_at l r p e, ← e, drop-append-add l r (length xs)) (append_assoc l xs (drop (length xs) r))
+-- the first bytes of two runs that lie apart are stored, and then the rest of both
+both_first : (xs ys l : List ℕ) (p q x y : ℕ) → p + suc (length xs) ≤ q
+    → sets (sets (set (set l p x) q y) (suc p) xs) (suc q) ys ≡ sets (sets l p (x ∷ xs)) q (y ∷ ys)
+both_first xs ys l p q x y h = ap (λ m. sets m (suc q) ys) (sym (set_sets xs (set l p x) (suc p) q y (omega arith)))
 
 -- what lies past a run is kept
 past_run : (xs l : List ℕ) (p k : ℕ) → p + length xs ≤ k → drop k (sets l p xs) ≡ drop k l
@@ -88,40 +89,40 @@ module _ (n i j : ℕ) (file : List ℕ) (less : i < j) (within : j < count n fi
       ∙ ap (λ l. sets l (n * j) (row_at n file i)) (stored_sets n (row_at n file j) i file room_first)
 
   -- both rows end in the file, the first before the second
-  ends : (n * i + n ≤ n * j) × (n * j + n ≤ length file)
+  pub ends : (n * i + n ≤ n * j) × (n * j + n ≤ length file)
   ends = (apart n i j less, in_file n file j width_some within)
 
-  -- the file parted at the second row, and the bytes of the rows exchanged between the two parts
-  module _ (front rest one other : List ℕ) (k : ℕ) (front-is : front ≡ take (n * j) file) (rest-is : rest ≡ drop (n * j) file)
-      (one-is : one ≡ take n rest) (other-is : other ≡ take k (drop (n * i) front)) (wide : k ≡ n) where
-    parted : front ++ rest ≡ file
-    parted = rw (front-is, rest-is) (take-append-drop (n * j) file)
+  -- one more byte exchanged: the bytes further on are kept, and the rest of both rows comes to the same
+  module _ (now : List ℕ) (k : ℕ) (size : length now ≡ length file) (below : k < n)
+      (kept : (m : ℕ) → k ≤ m → m < n → (get_or now (n * i + m) 0 ≡ get_or file (n * i + m) 0) × (get_or now (n * j + m) 0 ≡ get_or file (n * j + m) 0)) where
+    abbrev further : List ℕ
+    further = set (set now (n * i + k) (get_or now (n * j + k) 0)) (n * j + k) (get_or now (n * i + k) 0)
 
-    front_size : length front ≡ n * j
-    front_size = rw front-is (length-take-le (n * j) file (omega (arith, ends)))
+    pub further_kept : (m : ℕ) → k + 1 ≤ m → m < n
+        → (get_or further (n * i + m) 0 ≡ get_or file (n * i + m) 0) × (get_or further (n * j + m) 0 ≡ get_or file (n * j + m) 0)
+    further_kept m p q =
+        let both = kept m (omega arith) q in (
+          get_or-set_other (set now (n * i + k) (get_or now (n * j + k) 0)) (n * j + k) (n * i + m) (get_or now (n * i + k) 0) 0 (λ e. omega (arith, ends))
+              ∙ get_or-set_other now (n * i + k) (n * i + m) (get_or now (n * j + k) 0) 0 (λ e. omega arith)
+              ∙ both.0,
+          get_or-set_other (set now (n * i + k) (get_or now (n * j + k) 0)) (n * j + k) (n * j + m) (get_or now (n * i + k) 0) 0 (λ e. omega arith)
+              ∙ get_or-set_other now (n * i + k) (n * j + m) (get_or now (n * j + k) 0) 0 (λ e. omega (arith, ends))
+              ∙ both.1,
+        )
 
-    one_row : one ≡ row_at n file j
-    one_row = one-is ∙ ap (take n) rest-is
-
-    other_row : other ≡ row_at n file i
-    other_row = other-is ∙ rw (wide, front-is) (part (n * i) n (n * j) file ends.0)
-
-    room : n * j + length (row_at n file i) ≤ length (sets front (n * i) (row_at n file j) ++ rest)
-    room = rw first_size (omega (arith, ends, length-append (sets front (n * i) (row_at n file j)) rest, length-append front rest, length-sets front (n * i) (row_at n file j), ap length parted))
-
-    pub swapped_parts : put_mid (n * i) k front one ++ (other ++ drop n rest) ≡ swapped n i j file
-    swapped_parts =
-        let fits : n * i + length (row_at n file j) ≤ length front = rw (second_size, front_size) ends.0 in
-        let first = sets_copied one (row_at n file j) front (n * i) k one_row (wide ∙ sym second_size) fits in
-        let both : ◌≡◌ {A = List ℕ} (put_mid (n * i) k front one ++ (other ++ drop n rest)) (sets front (n * i) (row_at n file j) ++ (row_at n file i ++ drop n rest))
-        = λ t. first t ++ (other_row t ++ drop n rest) in
-        let behind = run_right (row_at n file i) (sets front (n * i) (row_at n file j)) rest (n * j) (length-sets front (n * i) (row_at n file j) ∙ front_size) room in
-        both
-        ∙ sym
-        (swapped_sets
-        ∙ ap (λ l. sets (sets l (n * i) (row_at n file j)) (n * j) (row_at n file i)) (sym parted)
-        ∙ ap (λ l. sets l (n * j) (row_at n file i)) (run_left (row_at n file j) front rest (n * i) fits)
-        ∙ (rw first_size at behind))
+    pub further_rest : sets (sets further (n * i + (k + 1)) (drop (k + 1) (row_at n file j))) (n * j + (k + 1)) (drop (k + 1) (row_at n file i))
+        ≡ sets (sets now (n * i + k) (drop k (row_at n file j))) (n * j + k) (drop k (row_at n file i))
+    further_rest =
+        let here = kept k (omega arith) below in
+        let one : get_or now (n * j + k) 0 ≡ get_or (row_at n file j) k 0 = here.1 ∙ sym (row_byte n file j k below) in
+        let other : get_or now (n * i + k) 0 ≡ get_or (row_at n file i) k 0 = here.0 ∙ sym (row_byte n file i k below) in
+        let p : n * i + (k + 1) ≡ suc (n * i + k) = omega arith in
+        let q : n * j + (k + 1) ≡ suc (n * j + k) = omega arith in
+        let left : length (drop (suc k) (row_at n file j)) ≡ n - suc k = length-drop (suc k) (row_at n file j) ∙ rw second_size in
+        rw (p, q, add-one, one, other)
+        (both_first (drop (suc k) (row_at n file j)) (drop (suc k) (row_at n file i)) now (n * i + k) (n * j + k)
+        (get_or (row_at n file j) k 0) (get_or (row_at n file i) k 0) (rw left (omega (arith, ends)))
+        ∙ rw (← drop-cons (row_at n file j) k 0 (rw second_size below), ← drop-cons (row_at n file i) k 0 (rw first_size below)))
 
   pub swapped_length : length (swapped n i j file) ≡ length file
   unfolding swapped

@@ -34,7 +34,11 @@ pub fn swap(file: &mut [u8], width: usize, i: usize, j: usize)
     requires { (i < j) × (j < length file.old / width) }
     ensures { file.new ≡ swapped width i j file.old }
 {
-    let first = width * i;
-    let (front, rest) = file.split_at_mut(width * j);
-    front[first..first + width].swap_with_slice(&mut rest[..width]);
+    let a = width * i;
+    let b = width * j;
+    for k in 0..width {
+        let kept = file[a + k];
+        file[a + k] = file[b + k];
+        file[b + k] = kept;
+    }
 }

@@ -1,12 +1,13 @@
 // What the programs that replay vectors share: lines, fields, bytes in hexadecimal, texts, and how answers are printed.
 #![tactic(auto)]
 
-ghost use Rattle.std.specs.Prelude.{◌≡◌, ◌↔◌, ◌+◌, ◌<◌, ◌==◌, map, replicate, length, take, drop, IfOk, IfSome, IsNone};
+ghost use Rattle.std.specs.Prelude.{◌≡◌, ◌↔◌, ◌+◌, ◌<◌, ◌==◌, [], replicate, length, take, drop, IfSome, IsNone};
 ghost use Rattle.std.specs.List.{slice_split};
+ghost use Rattle.std.specs.Option.{option_map_or};
+ghost use Rattle.std.specs.Iterator.{YieldsFirstBy, item_count};
 ghost use Rattle.vectors.specs.Next.{next};
 
-use std::alloc::{AllocError, Global};
-use std::io::Result as Printed;
+use std::io::{ErrorKind, Result as Printed};
 
 pub mod hex;
 pub mod plain;
@@ -20,37 +21,68 @@ pub fn input() -> [u8; 1048576]
     [0; 1048576]
 }
 
-// What stands on standard input, as far as there is room for it.
-pub fn read(mut room: Vec<u8>) -> Vec<u8> {
-    let n = io::read_full(0, &mut room);
-    room.truncate(n);
-    room
+// The lines of an input, without their newlines, that are still to come; or none.
+#[derive(Clone, Copy)]
+pub struct LinesLeft<'a>(Option<&'a [u8]>);
+
+impl<'a> Iterator for LinesLeft<'a> {
+    type Item = &'a [u8];
+
+    ghost next_gives = { YieldsFirstBy (λ line. line.now) (λ s. option_map_or (λ rest. slice_split (λ b. b == 10) rest.now) s.0 []) };
+
+    ghost remaining = { item_count (λ s. option_map_or (λ rest. slice_split (λ b. b == 10) rest.now) s.0 []) };
+
+    fn next(&mut self) -> Option<&'a [u8]> {
+        let Some(rest) = self.0 else {
+            return None;
+        };
+        match rest.iter().position(|&b| b == b'\n') {
+            Some(n) => {
+                self.0 = Some(&rest[n + 1..]);
+                Some(&rest[..n])
+            }
+            None => {
+                self.0 = None;
+                Some(rest)
+            }
+        }
+    }
 }
 
-// The first mebibyte of standard input.
-fn standard_input(alloc: Global) -> Result<Vec<u8>, AllocError> {
-    Ok(read(Vec::from_array(alloc, input())?))
-}
-
-// The lines of an input, without their newlines.
-pub fn lines(alloc: Global, input: &[u8]) -> Result<Vec<&[u8]>, AllocError>
-    ensures { IfOk result (λ v. map (λ line. line.now) v.items ≡ slice_split (λ b. b == 10) input.now) }
+// The lines of an input.
+pub fn lines(input: &[u8]) -> LinesLeft<'_>
+    ensures { option_map_or (λ rest. slice_split (λ b. b == 10) rest.now) result.0 [] ≡ slice_split (λ b. b == 10) input.now }
 {
-    input.split(|&b| b == b'\n').collect(alloc)
+    LinesLeft(Some(input))
 }
 
-// Has each line of standard input answered, by its letter and its fields, and ends each answer's line. An empty line is none.
+// Has each line of standard input answered, by its letter and its fields, and ends each answer's line. An empty line is none. What cannot be
+// printed is lost, and the next line is answered; only where memory lacks does it end before the last.
 pub fn for_each_line<R: Print + AllocGlobal, F: FnMut(u8, &[u8]) -> Printed<()>>(
     rt: &R,
+    answer: F,
+) -> Printed<()>
+    requires { F.IsAlwaysCallable answer }
+{
+    let mut input = input();
+    let n = io::read_full(0, &mut input);
+    answer_each(rt, &input[..n], answer)
+}
+
+fn answer_each<R: Print, F: FnMut(u8, &[u8]) -> Printed<()>>(
+    rt: &R,
+    input: &[u8],
     mut answer: F,
 ) -> Printed<()>
     requires { F.IsAlwaysCallable answer }
 {
-    let input = standard_input(rt.alloc())?;
-    for line in lines(rt.alloc(), &input)? {
+    for line in lines(input) {
         if let Some((letter, fields)) = line.split_first() {
-            answer(*letter, fields)?;
-            rt.println("")?;
+            match answer(*letter, fields) {
+                Err(lacks) if lacks.kind() == ErrorKind::OutOfMemory => return Err(lacks),
+                _ => {}
+            }
+            let _ = rt.println("");
         }
     }
     Ok(())

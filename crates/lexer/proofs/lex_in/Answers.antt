@@ -38,6 +38,6 @@ pub returns-in-Other : goal.returns-in-Other
 returns-in-Other c =
     first _ _ _ _ _ (c.loop-b.invariant ∙ at_other (at c.in-Some.ensures.lookup.3 c.class_of.ensures c.in-Other.is))
 
-pub returns : goal.returns
-returns c =
+pub returns-in_default : goal.returns-in_default
+returns-in_default c =
     first _ _ _ _ _ (c.loop-b.invariant ∙ none _ _ _ (search rules))

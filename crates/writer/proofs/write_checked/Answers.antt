@@ -20,20 +20,20 @@ write_all-n-requires c =
 pub returns-then-out-n : goal.returns-then-out-n
 returns-then-out-n c =
     let a = c.args in
-    let m = c.in_ok-in_order in
-    let z = reads_on a.text.now a.file.now m.in_order m.ensures.of in
-    rw c.text_room.ensures (accepted_then a.text.now a.file.now m.in_order m.ensures.of a.out.now _ _ (no_room a.text.now z.0 z.1 _ _ _ c.write_all-n.ensures a.out.now c.if-out-n.true))
+    let k = c.in_ok-in_order in
+    let z = reads_on a.text.now a.file.now k.in_order k.ensures.of in
+    rw c.text_room.ensures (accepted_then a.text.now a.file.now k.in_order k.ensures.of a.out.now _ _ (no_room a.text.now z.0 z.1 _ _ _ c.write_all-n.ensures a.out.now c.if-out-n.true))
 
 pub write_all-requires : goal.write_all-requires
 write_all-requires c =
     let a = c.args in
-    let m = c.in_ok-in_order in
-    (c.requires, reads_on a.text.now a.file.now m.in_order m.ensures.of, λ h. m.ensures.held (ap Ok h))
+    let q = c.in_ok-in_order in
+    (c.requires, reads_on a.text.now a.file.now q.in_order q.ensures.of, λ h. q.ensures.held (ap Ok h))
 
 pub returns : goal.returns
 returns c =
     let a = c.args in
-    let m = c.in_ok-in_order in
-    let z = reads_on a.text.now a.file.now m.in_order m.ensures.of in
-    accepted_then a.text.now a.file.now m.in_order m.ensures.of a.out.now _ _
+    let v = c.in_ok-in_order in
+    let z = reads_on a.text.now a.file.now v.in_order v.ensures.of in
+    accepted_then a.text.now a.file.now v.in_order v.ensures.of a.out.now _ _
     (written_whole a.text.now z.0 z.1 _ _ _ c.write_all-n.ensures a.out.now _ c.if-out-n.false (omega (arith, c.well_formed)) _ c.write_all.ensures)

@@ -10,7 +10,7 @@ pub returns-then-is_entered-clause-steps : goal.returns-then-is_entered-clause-s
 returns-then-is_entered-clause-steps c =
     let s = c.split_at.ensures in
     let e = rw s.front at (sym c.is_entered.ensures ∙ c.if-is_entered.true) in
-    sym c.loop-self.invariant ∙ rw (c.entry_of.ensures, s.front, s.back) (left_entered c.loop-self.self.0.now c.loop-self-test.true e)
+    sym c.loop-self.invariant ∙ rw (c.entry_of.ensures.of, s.front, s.back) (left_entered c.loop-self.self.0.now c.loop-self-test.true e)
 
 pub returns-then-is_entered-clause-goes : goal.returns-then-is_entered-clause-goes
 returns-then-is_entered-clause-goes c =
