@@ -19,10 +19,9 @@
 #![tactic(auto)]
 
 use entry::Entry;
-use std::alloc::{AllocError, Global};
 use std::io;
-use vectors::say::{Answer, Found, Hex};
-use vectors::{hex, plain};
+use vectors::say::{Answer, Found};
+use vectors::{hex, plain, say};
 
 mod long;
 mod many;
@@ -31,7 +30,7 @@ mod many;
 const INDEX: usize = 2048;
 
 // The answers to a line.
-pub fn answer(rt: &(impl Print + AllocGlobal), letter: u8, fields: &[u8]) -> io::Result<()> {
+pub fn answer(rt: &impl Print, letter: u8, fields: &[u8]) -> io::Result<()> {
     match letter {
         b'm' => long::made(rt, fields, false),
         b'l' => long::made(rt, fields, true),
@@ -40,7 +39,7 @@ pub fn answer(rt: &(impl Print + AllocGlobal), letter: u8, fields: &[u8]) -> io:
 }
 
 // The other forms, where their fields are all there. Two of these have no index for all of their questions.
-fn given(rt: &(impl Print + AllocGlobal), letter: u8, fields: &[u8]) -> Option<io::Result<()>> {
+fn given(rt: &impl Print, letter: u8, fields: &[u8]) -> Option<io::Result<()>> {
     let (text, fields) = vectors::cut(b'|', fields)?;
     let (file, fields) = vectors::cut(b'|', fields)?;
     let (index, questions) = match letter {
@@ -50,18 +49,23 @@ fn given(rt: &(impl Print + AllocGlobal), letter: u8, fields: &[u8]) -> Option<i
     Some(asked(rt, letter, [text, file, index], questions))
 }
 
-fn asked(
-    rt: &(impl Print + AllocGlobal),
-    letter: u8,
-    fields: [&[u8]; 3],
-    questions: &[u8],
-) -> io::Result<()> {
-    let held = Held::of(rt.alloc(), fields)?;
+// A text of at most 4,096 bytes, a file of at most 227 records, and an index. A long text needs no room for these, so that this function has
+// a frame of its own.
+#[inline(never)]
+fn asked(rt: &impl Print, letter: u8, fields: [&[u8]; 3], questions: &[u8]) -> io::Result<()> {
+    let mut text = [0; 4096];
+    let mut file = [0; 8192];
+    let mut index = [0; INDEX];
+    let held = Held {
+        text: plain::decoded(fields[0], &mut text),
+        file: hex::decoded(fields[1], &mut file),
+        index: hex::decoded(fields[2], &mut index),
+    };
     for question in questions.split(|&b| b == b'|') {
         print!(rt; ";")?;
         match letter {
             b'b' => held.build(rt, question)?,
-            b'c' => held.check(rt, &hex::decoded(rt.alloc(), question, INDEX)?)?,
+            b'c' => held.check_given(rt, question)?,
             b'e' => held.check_masked(rt, question)?,
             b'p' => held.check_picked(rt, question)?,
             b'q' => held.find(rt, question)?,
@@ -72,67 +76,75 @@ fn asked(
     Ok(())
 }
 
-// What a line asks about: a text of at most 4,096 bytes, a file of at most 227 records, and an index.
-#[derive(Drop)]
-struct Held {
-    text: Vec<u8>,
-    file: Vec<u8>,
-    index: Vec<u8>,
+// What a line asks about.
+#[derive(Clone, Copy)]
+struct Held<'a> {
+    text: &'a [u8],
+    file: &'a [u8],
+    index: &'a [u8],
 }
 
-impl Held {
-    fn of(alloc: Global, fields: [&[u8]; 3]) -> Result<Self, AllocError> {
-        let [text, file, index] = fields;
-        Ok(Self {
-            text: plain::decoded(alloc, text, 4096)?,
-            file: hex::decoded(alloc, file, 8192)?,
-            index: hex::decoded(alloc, index, INDEX)?,
-        })
-    }
-
-    fn build(&self, rt: &(impl Print + AllocGlobal), digits: &[u8]) -> io::Result<()> {
-        let room = hex::size(digits);
-        if INDEX < room {
+// Each question has a frame of its own, so that none needs the room of another.
+impl Held<'_> {
+    #[inline(never)]
+    fn build(self, rt: &impl Print, digits: &[u8]) -> io::Result<()> {
+        let mut room = [b'~'; INDEX];
+        let Some(out) = room.get_mut(..hex::size(digits)) else {
             return Ok(());
-        }
-        let mut out = vec![in rt.alloc(); b'~'; room]?;
-        let built = indexer::build(&self.text, &self.file, &mut out);
-        print!(rt; "{} {}", Answer(built), Hex(&out))
+        };
+        let built = indexer::build(self.text, self.file, out);
+        print!(rt; "{} ", Answer(built))?;
+        say::hex(rt, out)
     }
 
-    fn check(&self, rt: &impl Print, index: &[u8]) -> io::Result<()> {
-        let checked = indexer::check(&self.text, &self.file, index);
+    #[inline(never)]
+    fn check_given(self, rt: &impl Print, digits: &[u8]) -> io::Result<()> {
+        let mut room = [0; INDEX];
+        self.check(rt, hex::decoded(digits, &mut room))
+    }
+
+    fn check(self, rt: &impl Print, index: &[u8]) -> io::Result<()> {
+        let checked = indexer::check(self.text, self.file, index);
         print!(rt; "{} ", Answer(checked.map(|()| 0)))
     }
 
-    fn check_masked(&self, rt: &(impl Print + AllocGlobal), digits: &[u8]) -> io::Result<()> {
+    #[inline(never)]
+    fn check_masked(self, rt: &impl Print, digits: &[u8]) -> io::Result<()> {
         let [mask] = hex::array::<1>(digits);
-        let mut changed = self.index.clone()?;
+        let mut room = [0; INDEX];
+        let Some(changed) = room.get_mut(..self.index.len()) else {
+            return Ok(());
+        };
+        changed.copy_from_slice(self.index);
         for i in 0..changed.len() {
             changed[i] ^= mask;
-            self.check(rt, &changed)?;
+            self.check(rt, changed)?;
             changed[i] ^= mask;
         }
         Ok(())
     }
 
-    fn check_picked(&self, rt: &(impl Print + AllocGlobal), digits: &[u8]) -> io::Result<()> {
-        let positions = hex::decoded(rt.alloc(), digits, INDEX / Entry::SIZE)?;
-        let mut picked = vec![in rt.alloc(); 0; Entry::SIZE.saturating_mul(positions.len())]?;
+    #[inline(never)]
+    fn check_picked(self, rt: &impl Print, digits: &[u8]) -> io::Result<()> {
+        let mut room = [0; INDEX / Entry::SIZE];
+        let mut picked = [0; INDEX];
+        let positions = hex::decoded(digits, &mut room);
         for (to, from) in positions.iter().enumerate() {
-            take(&self.index, usize::from(*from), &mut picked, to);
+            take(self.index, usize::from(*from), &mut picked, to);
         }
-        self.check(rt, &picked)
+        let picked = picked.get(..Entry::SIZE.saturating_mul(positions.len()));
+        self.check(rt, picked.unwrap_or(&[]))
     }
 
-    fn find(&self, rt: &(impl Print + AllocGlobal), field: &[u8]) -> io::Result<()> {
+    fn find(self, rt: &impl Print, field: &[u8]) -> io::Result<()> {
         let Some((owner, name)) = field.split_first_chunk::<16>() else {
             return Ok(());
         };
         let owner = u64::from_le_bytes(hex::array(owner)) as usize;
-        let name = plain::decoded(rt.alloc(), name, 256)?;
-        let found = indexer::find(&self.text, &self.file, &self.index, owner, &name);
-        print!(rt; "{} ", Found(found))
+        let mut room = [0; 256];
+        let name = plain::decoded(name, &mut room);
+        let found = indexer::find(self.text, self.file, self.index, owner, name);
+        print!(rt; "{}", Found(found))
     }
 }
 

@@ -5,7 +5,6 @@ use entry::Entry;
 use index::Query;
 use reader::reading;
 use record::Record;
-use std::alloc::{AllocError, Global};
 use std::io;
 use vectors::hex;
 use vectors::say::{Answer, Found};
@@ -13,32 +12,40 @@ use vectors::say::{Answer, Found};
 // The most pins.
 const PINS: usize = 20000;
 
-// The bytes before the first pin, and of one pin.
+// The bytes before the first pin, of one pin, and after the last.
 const HEAD: usize = 8;
 
 const PIN: usize = 20;
 
+const TAIL: usize = 18;
+
+// The bytes of the longest text, of its file and its index, and of a query for each entry and its answer.
+const TEXT: usize = HEAD + PIN * PINS + TAIL;
+
+const FILE: usize = Record::SIZE * (PINS + 1);
+
+const ENTRIES: usize = Entry::SIZE * (PINS + 1);
+
+const QUERIES: usize = Query::SIZE * (PINS + 1);
+
+const ANSWERS: usize = Query::ANSWER * (PINS + 1);
+
 // What is said of a long text, by its numbers; all pins are found in one call as well, where that is asked. Two letters differ in `all` alone, and
 // a closure for that call would be handed five things.
-pub(crate) fn made(rt: &(impl Print + AllocGlobal), digits: &[u8], all: bool) -> io::Result<()> {
+pub(crate) fn made(rt: &impl Print, digits: &[u8], all: bool) -> io::Result<()> {
     let long = Long::of(&hex::array::<15>(digits));
     if PINS < long.n {
         return Ok(());
     }
-    let text = long.text(rt.alloc())?;
-    let mut file = vec![in rt.alloc(); 0; Record::SIZE * (PINS + 1)]?;
-    let mut index = vec![in rt.alloc(); 0; Entry::SIZE * (PINS + 1)]?;
-    let Ok(records) = reading::read(&text, &mut file) else {
+    let mut text = vectors::zeros::<TEXT>();
+    let mut file = vectors::zeros::<FILE>();
+    let n = long.text(&mut text);
+    let text = text.get(..n).unwrap_or(&[]);
+    let Ok(records) = reading::read(text, &mut file) else {
         return Ok(());
     };
-    let file = file
-        .get(..Record::SIZE.saturating_mul(records))
-        .unwrap_or(&[]);
-    let built = indexer::build(&text, file, &mut index);
-    print!(rt; ";{} ", Answer(built))?;
-    index.truncate(Entry::SIZE.saturating_mul(built.unwrap_or(0)));
-    print!(rt; "{} ", sum(&index))?;
-    long.confuse(rt, &text, file, &mut index, all)
+    let file = file.get(..Record::SIZE.saturating_mul(records));
+    long.indexed(rt, text, file.unwrap_or(&[]), all)
 }
 
 // A long text, by its numbers.
@@ -64,35 +71,44 @@ impl Long {
         }
     }
 
-    // The macro with its pins.
-    fn text(self, alloc: Global) -> Result<Vec<u8>, AllocError> {
-        let mut text = Vec::new(alloc);
-        text.extend_from_slice(b"MACRO m\n")?;
+    // Puts the macro with its pins at the front of the text: how many bytes these are.
+    fn text(self, text: &mut [u8]) -> usize {
+        let mut n = vectors::put(b"MACRO m\n", text, 0);
         let mut k = 0;
         for _ in 0..self.n {
             let name = name(k);
-            text.extend_from_slice(b"PIN ")?;
-            text.extend_from_slice(&name)?;
-            text.extend_from_slice(b" END ")?;
-            text.extend_from_slice(&name)?;
-            text.push(b'\n')?;
+            n = vectors::put(b"PIN ", text, n);
+            n = vectors::put(&name, text, n);
+            n = vectors::put(b" END ", text, n);
+            n = vectors::put(&name, text, n);
+            n = vectors::put(b"\n", text, n);
             k = vectors::stepped(k, self.step, self.names);
         }
-        text.extend_from_slice(b"END m\nEND LIBRARY\n")?;
-        Ok(text)
+        vectors::put(b"END m\nEND LIBRARY\n", text, n)
+    }
+
+    fn indexed(self, rt: &impl Print, text: &[u8], file: &[u8], all: bool) -> io::Result<()> {
+        let mut room = vectors::zeros::<ENTRIES>();
+        let built = indexer::build(text, file, &mut room);
+        print!(rt; ";{} ", Answer(built))?;
+        let Some(index) = room.get_mut(..Entry::SIZE.saturating_mul(built.unwrap_or(0))) else {
+            return Ok(());
+        };
+        print!(rt; "{} ", sum(index))?;
+        self.confuse(rt, text, file, index, all)
     }
 
     // Finds a pin, and all pins where that is asked, and checks the index with one entry in the place of another.
     fn confuse(
         self,
-        rt: &(impl Print + AllocGlobal),
+        rt: &impl Print,
         text: &[u8],
         file: &[u8],
         index: &mut [u8],
         all: bool,
     ) -> io::Result<()> {
         let found = indexer::find(text, file, index, 0, &name(self.put));
-        print!(rt; ";{} ", Found(found))?;
+        print!(rt; ";{}", Found(found))?;
         if all {
             print!(rt; ";")?;
             every(rt, text, file, index, index.len() / Entry::SIZE)?;
@@ -136,32 +152,26 @@ fn double(index: &mut [u8], from: usize, to: usize) {
 }
 
 // As many queries as there are entries: one for each pin, by its name in the text, and one by what stands in the place of another pin's.
-fn every(
-    rt: &(impl Print + AllocGlobal),
-    text: &[u8],
-    file: &[u8],
-    index: &[u8],
-    n: usize,
-) -> io::Result<()> {
+fn every(rt: &impl Print, text: &[u8], file: &[u8], index: &[u8], n: usize) -> io::Result<()> {
     if n <= 20001 {
-        let queries = queries(rt.alloc(), n)?;
-        let mut room = vec![in rt.alloc(); 0; Query::ANSWER * (PINS + 1)]?;
-        let answers = &mut room[..Query::ANSWER * n];
-        let found = indexer::find_many(text, file, index, text, &queries, answers);
+        let mut query_room = vectors::zeros::<QUERIES>();
+        let mut answer_room = vectors::zeros::<ANSWERS>();
+        let queries = &mut query_room[..Query::SIZE * n];
+        let answers = &mut answer_room[..Query::ANSWER * n];
+        ask(n, queries);
+        let found = indexer::find_many(text, file, index, text, queries, answers);
         print!(rt; "{} {} ", Answer(found), sum(answers))?;
     }
     Ok(())
 }
 
-// So many queries; their owner is the macro, which is at nought.
-fn queries(alloc: Global, n: usize) -> Result<Vec<u8>, AllocError>
+// Puts so many queries in a buffer; their owner is the macro, which is at nought.
+fn ask(n: usize, queries: &mut [u8])
     requires { n ≤ 20001 }
 {
-    let mut queries = vec![in alloc; 0; Query::SIZE * n]?;
     for i in 0..n {
         let start = (HEAD + PIN * i + 4) as u64;
-        little::lay(&mut queries, Query::SIZE * i + Query::START, 4, start);
-        little::lay(&mut queries, Query::SIZE * i + Query::LEN, 4, 5);
+        little::lay(queries, Query::SIZE * i + Query::START, 4, start);
+        little::lay(queries, Query::SIZE * i + Query::LEN, 4, 5);
     }
-    Ok(queries)
 }

@@ -2,50 +2,43 @@
 use crate::{Held, INDEX};
 use index::Query;
 use std::io;
-use vectors::say::{Answer, Hex};
-use vectors::{hex, plain};
+use vectors::say::Answer;
+use vectors::{hex, plain, say};
 
 // The `at` of what is not found.
 const NOWHERE: usize = 4294967295;
 
-impl Held {
+impl Held<'_> {
     // At most 170 queries, and names of 1,024 bytes.
-    pub(crate) fn find_many(
-        &self,
-        rt: &(impl Print + AllocGlobal),
-        field: &[u8],
-    ) -> io::Result<()> {
+    #[inline(never)]
+    pub(crate) fn find_many(self, rt: &impl Print, field: &[u8]) -> io::Result<()> {
         let Some((room, field)) = field.split_first_chunk::<4>() else {
             return Ok(());
         };
         let Some((queries, names)) = vectors::cut(b':', field) else {
             return Ok(());
         };
-        let room = hex::size(room);
-        if INDEX < room {
+        let mut query_room = [0; 2048];
+        let mut name_room = [0; 1024];
+        let mut out_room = [b'~'; INDEX];
+        let Some(out) = out_room.get_mut(..hex::size(room)) else {
             return Ok(());
-        }
-        let queries = hex::decoded(rt.alloc(), queries, 2048)?;
-        let names = plain::decoded(rt.alloc(), names, 1024)?;
-        let mut out = vec![in rt.alloc(); b'~'; room]?;
-        let found = indexer::find_many(
-            &self.text,
-            &self.file,
-            &self.index,
-            &names,
-            &queries,
-            &mut out,
-        );
-        print!(rt; "{} {} ", Answer(found), Hex(&out))?;
-        self.find_each(rt, &queries, &names)
+        };
+        let queries = hex::decoded(queries, &mut query_room);
+        let names = plain::decoded(names, &mut name_room);
+        let found = indexer::find_many(self.text, self.file, self.index, names, queries, out);
+        print!(rt; "{} ", Answer(found))?;
+        say::hex(rt, out)?;
+        print!(rt; " ")?;
+        self.find_each(rt, queries, names)
     }
 
     // The same look-ups, one after the other.
-    fn find_each(&self, rt: &impl Print, queries: &[u8], names: &[u8]) -> io::Result<()> {
+    fn find_each(self, rt: &impl Print, queries: &[u8], names: &[u8]) -> io::Result<()> {
         for query in queries.chunks_exact(Query::SIZE) {
             let owner = little::word32(query, Query::OWNER);
             let name = name_of(query, names);
-            let found = indexer::find(&self.text, &self.file, &self.index, owner, name);
+            let found = indexer::find(self.text, self.file, self.index, owner, name);
             print!(rt; "{} ", found.unwrap_or(None).unwrap_or(NOWHERE))?;
         }
         Ok(())

@@ -9,16 +9,16 @@
 ghost use Rattle.std.specs.Prelude.{◌<◌};
 
 use record::Record;
-use std::alloc::{AllocError, Global};
 use std::io;
-use vectors::say::Answer;
+use vectors::say::{Answer, Pieces};
 use vectors::{hex, plain};
 
-fn main(rt: HostRuntime) -> io::Result<()> {
-    vectors::for_each_line(&rt, |letter, fields| answer(&rt, letter, fields))
+fn main(rt: HostRuntime) {
+    let rt = Pieces(rt);
+    vectors::for_each_line(&rt, |letter, fields| answer(&rt, letter, fields));
 }
 
-fn answer(rt: &(impl Print + AllocGlobal), letter: u8, fields: &[u8]) -> io::Result<()> {
+fn answer(rt: &impl Print, letter: u8, fields: &[u8]) -> io::Result<()> {
     match letter {
         b'c' => given(rt, fields),
         b'm' => made(rt, fields),
@@ -26,27 +26,32 @@ fn answer(rt: &(impl Print + AllocGlobal), letter: u8, fields: &[u8]) -> io::Res
     }
 }
 
-fn given(rt: &(impl Print + AllocGlobal), fields: &[u8]) -> io::Result<()> {
+fn given(rt: &impl Print, fields: &[u8]) -> io::Result<()> {
     let Some((text, file)) = vectors::cut(b'|', fields) else {
         return Ok(());
     };
-    let text = plain::decoded(rt.alloc(), text, 4096)?;
-    let file = hex::decoded(rt.alloc(), file, 4096)?;
-    checked(rt, &text, &file)
+    let mut text_room = [0; 4096];
+    let mut file_room = [0; 4096];
+    let text = plain::decoded(text, &mut text_room);
+    let file = hex::decoded(file, &mut file_room);
+    checked(rt, text, file)
 }
 
 fn checked(rt: &impl Print, text: &[u8], file: &[u8]) -> io::Result<()> {
     print!(rt; "{} ", Answer(checker::check(text, file).map(|()| 0)))
 }
 
-fn made(rt: &(impl Print + AllocGlobal), digits: &[u8]) -> io::Result<()> {
+fn made(rt: &impl Print, digits: &[u8]) -> io::Result<()> {
     let long = Long::of(&hex::array::<15>(digits));
     if STATEMENTS < long.n || RECORDS < long.held {
         return Ok(());
     }
-    let text = long.text(rt.alloc())?;
-    let file = long.file(rt.alloc())?;
-    checked(rt, &text, &file)
+    let mut text = vectors::zeros::<TEXT>();
+    let mut file = vectors::zeros::<FILE>();
+    let n = long.text(&mut text);
+    let file = &mut file[..Record::SIZE * long.held];
+    long.file(file);
+    checked(rt, text.get(..n).unwrap_or(&[]), file)
 }
 
 // The most statements of a long text, and the most records of its file.
@@ -54,8 +59,15 @@ const STATEMENTS: usize = 60000;
 
 const RECORDS: usize = 60001;
 
-// The bytes of one statement of the long text.
+// The bytes of one statement of the long text, and of its end.
 const STATEMENT: usize = 12;
+
+const END: usize = 11;
+
+// The bytes of the longest text, and of its file.
+const TEXT: usize = STATEMENT * STATEMENTS + END;
+
+const FILE: usize = Record::SIZE * RECORDS;
 
 // A long text and its file, by their numbers.
 #[derive(Clone, Copy)]
@@ -80,23 +92,21 @@ impl Long {
         }
     }
 
-    fn text(self, alloc: Global) -> Result<Vec<u8>, AllocError> {
-        let mut text = Vec::new(alloc);
+    // Puts the statements and the end at the front of the text: how many bytes these are.
+    fn text(self, text: &mut [u8]) -> usize {
+        let mut n = 0;
         for _ in 0..self.n {
-            text.extend_from_slice(b"VERSION 5 ;\n")?;
+            n = vectors::put(b"VERSION 5 ;\n", text, n);
         }
-        text.extend_from_slice(b"END LIBRARY")?;
-        Ok(text)
+        vectors::put(b"END LIBRARY", text, n)
     }
 
-    fn file(self, alloc: Global) -> Result<Vec<u8>, AllocError> {
-        let mut file = vec![in alloc; 0; Record::SIZE * self.held]?;
+    fn file(self, file: &mut [u8]) {
         let mut k = 0;
         for i in 0..self.held {
             let number = if i == self.odd { self.put } else { k };
-            file::put(Record::version(STATEMENT * number, 5000000), &mut file, i);
+            file::put(Record::version(STATEMENT * number, 5000000), file, i);
             k = vectors::stepped(k, self.step, self.n);
         }
-        Ok(file)
     }
 }

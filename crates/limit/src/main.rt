@@ -5,10 +5,11 @@
 
 use reader::reading;
 use std::alloc::AllocError;
-use vectors::say::Answer;
+use vectors::say::{Answer, Pieces};
 
 fn main(rt: HostRuntime) -> Result<(), AllocError> {
     let mut text = vec![in rt.alloc(); b' '; 16777217]?;
+    let rt = Pieces(rt);
     both(&rt, &text);
     if let Some(last) = text.last_mut() {
         *last = 128;

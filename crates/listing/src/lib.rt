@@ -19,7 +19,7 @@ pub fn list(rt: &impl Print, text: &[u8]) {
         if count != 0 {
             let _ = rt.println("");
         }
-        let _ = print!(rt; "{count} records");
+        let _ = print!(rt; "{count} {}", "records");
     }
     let _ = rt.println("");
 }

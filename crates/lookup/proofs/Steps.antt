@@ -1,9 +1,13 @@
 -- A step up the chain of owners: none where the owner is not below or lacks, and else one more than the owner has.
 use Prim.Native.Nat.{ℕ, ◌+◌, ◌/◌, ◌≤◌, ◌<◌}
-use mathlib.Core.Path.{◌≡◌}
+use mathlib.Core.Path.{◌≡◌, refl, sym, ap, ◌∙◌}
+use mathlib.Core.Bool.{Bool, true, false, true≢false}
 use mathlib.Core.List.{List}
 use native.Mathlib.Omega.{arith}
 use lib.ListN.{length}
+use borrow.Author.Tests.{ltb-true, ltb-false}
+use lib.Dec.{ltb}
+use Rattle.std.specs.Option.{is_some}
 use Rattle.std.specs.Prelude.{Option, Some, None}
 use Rattle.record.specs.declared.Record.{Record}
 use Rattle.file.specs.File.{held, record_in}
@@ -40,3 +44,21 @@ module _ (file : List ℕ) (r : Record) (count : ℕ) where
       further all h =
           let z = one_owner (held file) r (record_in file i) (owner_there file r below next is i e) in
           omega arith
+
+-- what is told of the record's owner: it is nowhere where it is not below, and else the first record that starts there
+module _ (file : List ℕ) (r : Record) (count : ℕ) (next : Option ℕ) (ends : r.at ≤ r.owner → next ≡ None) (goes : r.owner < r.at → next ≡ told (first (is_at r.owner) (held file))) where
+  pub alone : next ≡ None → count ≡ count + owners_of (held file) r
+  alone e = decide (ltb r.owner r.at) refl
+    where
+      decide : (t : Bool) → ltb r.owner r.at ≡ t → count ≡ count + owners_of (held file) r
+      decide true t =
+          let l : r.owner < r.at = ltb-true r.owner r.at t in
+          lacks file r count l next (goes l) e
+      decide false t = ended file r count (ltb-false r.owner r.at t)
+
+  pub below : (i : ℕ) → next ≡ Some i → r.owner < r.at
+  below i e = decide (ltb r.owner r.at) refl
+    where
+      decide : (t : Bool) → ltb r.owner r.at ≡ t → r.owner < r.at
+      decide true t = ltb-true r.owner r.at t
+      decide false t = absurd (true≢false (ap is_some (sym e ∙ ends (ltb-false r.owner r.at t))))

@@ -1,7 +1,7 @@
 // Look-ups on a record file alone: the record in force, a record's name, and how many owners a record has.
 #![tactic(auto)]
 
-ghost use Rattle.std.specs.Prelude.{◌≡◌, ◌+◌, ◌/◌, ◌<◌, length};
+ghost use Rattle.std.specs.Prelude.{◌≡◌, ◌+◌, ◌/◌, ◌<◌, ◌≤◌, None, length};
 ghost use Rattle.file.specs.File.{held, record_in};
 ghost use Rattle.lookup.specs.First.{first};
 ghost use Rattle.lookup.specs.Force.{all_count, same_option, asked, latest, told, in_force};
@@ -99,7 +99,7 @@ fn first_at(file: &[u8], place: usize) -> Option<usize>
     ensures { result ≡ told (first (is_at place) (held file.now)) }
 {
     for i in 0..file.len() / Record::SIZE {
-        if file::at(file, i).at() == place {
+        if at_in(file, i) == place {
             return Some(i);
         }
     }
@@ -112,14 +112,39 @@ fn climb(lent: &&[u8], index: usize, count: usize) -> usize
     requires { (index < length lent.now.now / 36) × (count + (record_in lent.now.now index).at < 4294967296) }
     ensures { result ≡ count + owners_of (held lent.now.now) (record_in lent.now.now index) }
 {
-    let r = file::at(lent, index);
-    if r.at() <= r.owner() {
-        return count;
+    match owner_index(lent, index) {
+        Some(next) => climb(lent, next, count + 1),
+        None => count,
     }
-    let Some(next) = first_at(lent, r.owner()) else {
-        return count;
-    };
-    climb(lent, next, count + 1)
+}
+
+// The index of the first record that owns the one at the index; none where the owner is not below, or is not there.
+fn owner_index(file: &[u8], index: usize) -> Option<usize>
+    requires { index < length file.now / 36 }
+    ensures ended { (record_in file.now index).at ≤ (record_in file.now index).owner → result ≡ None }
+    ensures below { (record_in file.now index).owner < (record_in file.now index).at → result ≡ told (first (is_at (record_in file.now index).owner) (held file.now)) }
+{
+    if at_in(file, index) <= owner_in(file, index) {
+        return None;
+    }
+    first_at(file, owner_in(file, index))
+}
+
+// The `at` of the record at the index. A step up holds two numbers and no record, so that it takes little of the stack where calls that
+// end a function are not made jumps.
+fn at_in(file: &[u8], index: usize) -> usize
+    requires { index < length file.now / 36 }
+    ensures { result ≡ (record_in file.now index).at }
+{
+    little::word32(rowfile::row(file, Record::SIZE, index), Record::AT)
+}
+
+// And its owner.
+fn owner_in(file: &[u8], index: usize) -> usize
+    requires { index < length file.now / 36 }
+    ensures { result ≡ (record_in file.now index).owner }
+{
+    little::word32(rowfile::row(file, Record::SIZE, index), Record::OWNER)
 }
 
 // How many owners the record at the index has, out to the library.

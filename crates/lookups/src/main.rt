@@ -10,7 +10,7 @@
 
 use record::Record;
 use std::io;
-use vectors::say::{Answer, Found, Numbers};
+use vectors::say::{Found, Numbers, Pieces};
 use vectors::{hex, plain};
 
 // The bytes of a text or a file that are looked at.
@@ -19,11 +19,14 @@ const MOST: usize = 4096;
 // The records of a chain at the most.
 const LONGEST: usize = 50000;
 
-fn main(rt: HostRuntime) -> io::Result<()> {
-    vectors::for_each_line(&rt, |letter, fields| answer(&rt, letter, fields))
+const CHAIN: usize = Record::SIZE * LONGEST;
+
+fn main(rt: HostRuntime) {
+    let rt = Pieces(rt);
+    vectors::for_each_line(&rt, |letter, fields| answer(&rt, letter, fields));
 }
 
-fn answer(rt: &(impl Print + AllocGlobal), letter: u8, fields: &[u8]) -> io::Result<()> {
+fn answer(rt: &impl Print, letter: u8, fields: &[u8]) -> io::Result<()> {
     match letter {
         b'f' => in_force(rt, fields),
         b'n' => names(rt, fields),
@@ -34,58 +37,68 @@ fn answer(rt: &(impl Print + AllocGlobal), letter: u8, fields: &[u8]) -> io::Res
     }
 }
 
-fn in_force(rt: &(impl Print + AllocGlobal), fields: &[u8]) -> io::Result<()> {
+fn in_force(rt: &impl Print, fields: &[u8]) -> io::Result<()> {
     let Some((given, digits)) = fields.split_first_chunk::<23>() else {
         return Ok(());
     };
     let owner = u64::from_le_bytes(hex::array(&given[0..16])) as usize;
     let [kind] = hex::array::<1>(&given[17..19]);
     let [code] = hex::array::<1>(&given[20..22]);
-    let file = hex::decoded(rt.alloc(), digits, MOST)?;
-    print!(rt; "{} ", Found(lookup::in_force(&file, owner, kind, code)))
+    let mut room = [0; MOST];
+    let file = hex::decoded(digits, &mut room);
+    print!(rt; "{}", Found(lookup::in_force(file, owner, kind, code)))
 }
 
-fn names(rt: &(impl Print + AllocGlobal), fields: &[u8]) -> io::Result<()> {
+fn names(rt: &impl Print, fields: &[u8]) -> io::Result<()> {
     let Some((text, file)) = vectors::cut(b'|', fields) else {
         return Ok(());
     };
-    let text = plain::decoded(rt.alloc(), text, MOST)?;
-    let file = hex::decoded(rt.alloc(), file, MOST)?;
+    let mut text_room = [0; MOST];
+    let mut file_room = [0; MOST];
+    let text = plain::decoded(text, &mut text_room);
+    let file = hex::decoded(file, &mut file_room);
     for i in 0..=file.len() / Record::SIZE {
-        let name = lookup::name(&text, &file, i);
+        let name = lookup::name(text, file, i);
         print!(rt; ";{} {}", name.len(), Numbers(name))?;
     }
     Ok(())
 }
 
-fn owners(rt: &(impl Print + AllocGlobal), digits: &[u8]) -> io::Result<()> {
-    let file = hex::decoded(rt.alloc(), digits, MOST)?;
+fn owners(rt: &impl Print, digits: &[u8]) -> io::Result<()> {
+    let mut room = [0; MOST];
+    let file = hex::decoded(digits, &mut room);
     for i in 0..=file.len() / Record::SIZE {
-        owners_of(rt, &file, i)?;
+        owners_of(rt, file, i)?;
     }
     Ok(())
 }
 
 fn owners_of(rt: &impl Print, file: &[u8], index: usize) -> io::Result<()> {
-    match lookup::owners(file, index) {
-        Ok(count) => print!(rt; ";0 0 0 {count} "),
-        Err(refusal) => print!(rt; ";{} 0 ", Answer(Err(refusal))),
-    }
+    let numbers = match lookup::owners(file, index) {
+        Ok(count) => [0, 0, 0, count],
+        Err(r) => [r.number, r.place, r.line, 0],
+    };
+    print!(rt; ";{}", Numbers(&numbers))
 }
 
-// Each record has the one that starts before it for its owner, and the first the library. Two letters differ in `falling` alone, and a closure
-// for the index would be no plainer.
-fn chain(rt: &(impl Print + AllocGlobal), digits: &[u8], falling: bool) -> io::Result<()> {
+// The ends of a chain. Two letters differ in `falling` alone, and a closure for the index would be no plainer.
+fn chain(rt: &impl Print, digits: &[u8], falling: bool) -> io::Result<()> {
+    let mut room = vectors::zeros::<CHAIN>();
     let count = u32::from_le_bytes(hex::array(digits)) as usize;
     if count == 0 || LONGEST < count {
         return Ok(());
     }
-    let mut file = vec![in rt.alloc(); 0; Record::SIZE * count]?;
+    let file = &mut room[..Record::SIZE * count];
+    link(file, count, falling);
+    owners_of(rt, file, count - 1)?;
+    owners_of(rt, file, 0)
+}
+
+// Each record has the one that starts before it for its owner, and the first the library.
+fn link(file: &mut [u8], count: usize, falling: bool) {
     for k in 0..count {
         let index = if falling { count - 1 - k } else { k };
         let owner = k.checked_sub(1).unwrap_or(Record::LIBRARY);
-        file::put(Record::port(k, owner), &mut file, index);
+        file::put(Record::port(k, owner), file, index);
     }
-    owners_of(rt, &file, count - 1)?;
-    owners_of(rt, &file, 0)
 }

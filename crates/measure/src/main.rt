@@ -6,6 +6,7 @@
 use reader::reading;
 use refusal::Refusal;
 use std::alloc::AllocError;
+use vectors::say::Pieces;
 
 // The longest text that the library reads, with the line before it, and a million records.
 const LONGEST: usize = 54800000;
@@ -13,7 +14,7 @@ const LONGEST: usize = 54800000;
 fn main(rt: HostRuntime) -> Result<(), AllocError> {
     let mut input = vec![in rt.alloc(); 0; LONGEST]?;
     let n = io::read_full(0, &mut input);
-    measure(&rt, &input[..n]);
+    measure(&Pieces(rt), &input[..n]);
     Ok(())
 }
 
@@ -27,7 +28,7 @@ fn measure(rt: &impl Print, input: &[u8]) {
         None => repeated(times, || reading::read(given, &mut [])),
     };
     let _ = match answer {
-        Some(Ok(count)) => println!(rt; "0 {count} "),
+        Some(Ok(count)) => println!(rt; "{} {count} ", 0),
         Some(Err(refusal)) => println!(rt; "{} {} ", refusal.number, refusal.place),
         None => Ok(()),
     };

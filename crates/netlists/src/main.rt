@@ -1,8 +1,9 @@
 // Looks up all names of a netlist in one call: each line of standard input is asked as src/lib.rt of `asking` says, and answered on a line.
 #![tactic(auto)]
 
-use std::io;
+use vectors::say::Pieces;
 
-fn main(rt: HostRuntime) -> io::Result<()> {
-    vectors::for_each_line(&rt, |letter, fields| asking::answer(&rt, letter, fields))
+fn main(rt: HostRuntime) {
+    let rt = Pieces(rt);
+    vectors::for_each_line(&rt, |letter, fields| asking::answer(&rt, letter, fields));
 }

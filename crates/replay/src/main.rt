@@ -14,7 +14,7 @@ use lexer::Lexed;
 use reader::reading;
 use record::Record;
 use std::io;
-use vectors::say::{Answer, Numbers};
+use vectors::say::{Numbers, Pieces};
 use vectors::{hex, plain};
 
 // The bytes of a text or a file that are looked at.
@@ -23,11 +23,12 @@ const MOST: usize = 8192;
 // The records that there is room for: a statement has two bytes at the least.
 const RECORDS: usize = 4096;
 
-fn main(rt: HostRuntime) -> io::Result<()> {
-    vectors::for_each_line(&rt, |letter, fields| answer(&rt, letter, fields))
+fn main(rt: HostRuntime) {
+    let rt = Pieces(rt);
+    vectors::for_each_line(&rt, |letter, fields| answer(&rt, letter, fields));
 }
 
-fn answer(rt: &(impl Print + AllocGlobal), letter: u8, fields: &[u8]) -> io::Result<()> {
+fn answer(rt: &impl Print, letter: u8, fields: &[u8]) -> io::Result<()> {
     match letter {
         b'f' | b'c' | b'p' => numbered(rt, letter, fields),
         b'r' => records(rt, fields),
@@ -35,27 +36,29 @@ fn answer(rt: &(impl Print + AllocGlobal), letter: u8, fields: &[u8]) -> io::Res
     }
 }
 
-fn written(rt: &(impl Print + AllocGlobal), letter: u8, field: &[u8]) -> io::Result<()> {
-    let text = plain::decoded(rt.alloc(), field, MOST)?;
+fn written(rt: &impl Print, letter: u8, field: &[u8]) -> io::Result<()> {
+    let mut room = [0; MOST];
+    let text = plain::decoded(field, &mut room);
     match letter {
-        b't' => tokens(rt, &text),
-        b'n' => value(rt, &text),
-        b'w' => word(rt, &text),
-        b'l' => reading(rt, &text),
+        b't' => tokens(rt, text),
+        b'n' => value(rt, text),
+        b'w' => word(rt, text),
+        b'l' => reading(rt, text),
         _ => print!(rt; "?"),
     }
 }
 
-fn numbered(rt: &(impl Print + AllocGlobal), letter: u8, fields: &[u8]) -> io::Result<()> {
+fn numbered(rt: &impl Print, letter: u8, fields: &[u8]) -> io::Result<()> {
     let Some((given, field)) = fields.split_first_chunk::<3>() else {
         return Ok(());
     };
     let [number] = hex::array::<1>(&given[0..2]);
-    let text = plain::decoded(rt.alloc(), field, MOST)?;
+    let mut room = [0; MOST];
+    let text = plain::decoded(field, &mut room);
     match letter {
-        b'f' => first(rt, number, &text),
-        b'c' => code(rt, number, &text),
-        _ => run(rt, number, &text),
+        b'f' => first(rt, number, text),
+        b'c' => code(rt, number, text),
+        _ => run(rt, number, text),
     }
 }
 
@@ -77,19 +80,20 @@ fn tokens(rt: &impl Print, text: &[u8]) -> io::Result<()> {
 }
 
 fn first(rt: &impl Print, place: u8, text: &[u8]) -> io::Result<()> {
-    match lexer::first_token(text, usize::from(place)) {
-        Ok(Some(t)) => print!(rt; "0 0 0 {} {} {} ", t.kind as usize, t.start, t.stop),
-        Ok(None) => print!(rt; "0 0 0 0 {} {} ", text.len(), text.len()),
-        Err(refusal) => print!(rt; "{} 0 0 0 ", Answer(Err(refusal))),
-    }
+    let numbers = match lexer::first_token(text, usize::from(place)) {
+        Ok(Some(t)) => [0, 0, 0, t.kind as usize, t.start, t.stop],
+        Ok(None) => [0, 0, 0, 0, text.len(), text.len()],
+        Err(r) => [r.number, r.place, r.line, 0, 0, 0],
+    };
+    print!(rt; "{}", Numbers(&numbers))
 }
 
 fn value(rt: &impl Print, text: &[u8]) -> io::Result<()> {
     let Some(value) = numeral::numeral(text) else {
         return print!(rt; "not");
     };
-    let sign = if value.negative { '-' } else { '+' };
-    print!(rt; "{sign} {} ", value.millionths)?;
+    let sign = if value.negative { "- " } else { "+ " };
+    print!(rt; "{sign}{} ", value.millionths)?;
     let mut shortest = [0; 24];
     match numeral::put(value, &mut shortest, 0) {
         Some(stop) => rt.write_all(shortest.get(..stop).unwrap_or(&[])),
@@ -116,23 +120,24 @@ fn code(rt: &impl Print, kind: u8, text: &[u8]) -> io::Result<()> {
     )
 }
 
-fn reading(rt: &(impl Print + AllocGlobal), text: &[u8]) -> io::Result<()> {
-    let mut records = vec![in rt.alloc(); 0; Record::SIZE * RECORDS]?;
+fn reading(rt: &impl Print, text: &[u8]) -> io::Result<()> {
+    let mut records = [0; Record::SIZE * RECORDS];
     let read = reading::read(text, &mut records);
     listing::answer(rt, read, &records, b";");
     Ok(())
 }
 
-fn run(rt: &(impl Print + AllocGlobal), number: u8, text: &[u8]) -> io::Result<()> {
+fn run(rt: &impl Print, number: u8, text: &[u8]) -> io::Result<()> {
     println!(rt; "run {number} ")?;
     listing::list(rt, text);
     Ok(())
 }
 
-fn records(rt: &(impl Print + AllocGlobal), digits: &[u8]) -> io::Result<()> {
-    let file = hex::decoded(rt.alloc(), digits, MOST)?;
+fn records(rt: &impl Print, digits: &[u8]) -> io::Result<()> {
+    let mut room = [0; MOST];
+    let file = hex::decoded(digits, &mut room);
     for i in 0..8 {
-        match file::read(&file, i) {
+        match file::read(file, i) {
             Some(r) => record(rt, r)?,
             None => return print!(rt; "past"),
         }

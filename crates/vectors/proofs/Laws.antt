@@ -12,7 +12,7 @@ use Rattle.vectors.specs.Hex.{pair, pairs}
 use Rattle.vectors.specs.Plain.{meant}
 
 -- the list from a place on is the byte there and the list from the next place on
-step : (s : List ℕ) (i : ℕ) → i < length s → drop i s ≡ get_or s i 0 ∷ drop (i + 1) s
+pub step : (s : List ℕ) (i : ℕ) → i < length s → drop i s ≡ get_or s i 0 ∷ drop (i + 1) s
 step s i h = rw (add-one, drop-cons s i 0)
 
 module _ (b : ℕ) where

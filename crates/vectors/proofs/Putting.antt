@@ -1,11 +1,10 @@
 -- Bytes are put into a buffer one by one: what is stored so far, and the bytes that are left stored on from there, come to the whole.
-use Prim.Native.Nat.{ℕ, suc, ◌+◌, ◌≤◌, ◌<◌, min}
+use Prim.Native.Nat.{ℕ, suc, ◌+◌, ◌-◌, ◌≤◌, ◌<◌, min}
 use mathlib.Core.Path.{◌≡◌, refl}
 use mathlib.Core.Bool.{Bool, true, false}
 use borrow.Author.Tests.{ltb-true, ltb-false}
 use lib.Dec.{ltb}
-use mathlib.Core.List.{List, [], ◌∷◌, ◌++◌}
-use Rattle.std.proofs.lemmas.List.{take-take, take-append-le}
+use mathlib.Core.List.{List, [], ◌∷◌}
 use native.Mathlib.Numerals.{add-one}
 use native.Mathlib.Omega.{arith}
 use lib.ListN.{length, take, set, length-set}
@@ -67,6 +66,31 @@ taken (x ∷ l) (b ∷ vs) =
     let more : min (suc (length vs)) (suc (length l)) ≡ suc (min (length vs) (length l)) = omega arith in
     rw (more, past b l 0 vs, taken l vs)
 
--- the front of a buffer, of the vector that holds it
-pub kept : (n m : ℕ) (xs ys : List ℕ) → n ≤ m → n ≤ length xs → take n (take m (xs ++ ys)) ≡ take n xs
-kept n m xs ys few here = rw (take-take n m (xs ++ ys) few) (take-append-le n xs ys here)
+-- of the bytes `whole`, which go into out₀ from a place on, n are in the buffer `out`, and `rest` are left
+pub record From (out₀ : List ℕ) (at : ℕ) (whole out : List ℕ) (n : ℕ) (rest : List ℕ) : Type 0 where
+  pub same : length out ≡ length out₀
+  pub laid : sets out (at + n) rest ≡ sets out₀ at whole
+
+pub started : (out : List ℕ) (at : ℕ) (whole : List ℕ) → From out at whole out 0 whole
+started out at whole =
+    let here : at + 0 ≡ at = omega arith in
+    record { same = refl; laid = rw here }
+
+module _ {out₀ whole out rest : List ℕ} {at n : ℕ} (p : From out₀ at whole out n rest) where
+  pub further : (b : ℕ) (rest' : List ℕ) → rest ≡ b ∷ rest' → From out₀ at whole (set out (at + n) b) (n + 1) rest'
+  further b rest' e =
+      let next : at + (n + 1) ≡ suc (at + n) = omega arith in
+      record {
+        same = rw length-set p.same;
+        laid = rw next (rw e at p.laid);
+      }
+
+  -- none is left, or there is no room for one
+  pub done : (n < length out₀ - at → rest ≡ []) → out ≡ sets out₀ at whole
+  done h = decide (ltb (at + n) (length out)) refl
+    where
+      decide : (t : Bool) → ltb (at + n) (length out) ≡ t → out ≡ sets out₀ at whole
+      decide true e =
+          let in_room : at + n < length out = ltb-true (at + n) (length out) e in
+          rw (h (omega (arith, in_room, p.same))) at p.laid
+      decide false e = rw (beyond out (at + n) rest (ltb-false (at + n) (length out) e)) at p.laid

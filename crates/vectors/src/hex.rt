@@ -1,9 +1,7 @@
 // Bytes in hexadecimal.
-ghost use Rattle.std.specs.Prelude.{◌≡◌, ◌<◌, min, length, take, replicate, IfOk};
+ghost use Rattle.std.specs.Prelude.{◌≡◌, ◌<◌, min, length, take, replicate};
 ghost use Rattle.std.proofs.lemmas.List.Edits.{sets};
 ghost use Rattle.vectors.specs.Hex.{digit, pair, pairs};
-
-use std::alloc::{AllocError, Global};
 
 fn digit(b: u8) -> u8
     ensures { (result ≡ digit b) × (result < 16) }
@@ -34,14 +32,12 @@ pub fn bytes(digits: &[u8], out: &mut [u8]) -> usize
     count
 }
 
-// The bytes that the digits stand for, or the first of them, so many at the most.
-pub fn decoded(alloc: Global, digits: &[u8], most: usize) -> Result<Vec<u8>, AllocError>
-    ensures { IfOk result (λ v. v.items ≡ take most (pairs digits.now)) }
+// The bytes that the digits stand for, or as many of them as there is room for, put at the front of it.
+pub fn decoded<'a>(digits: &[u8], room: &'a mut [u8]) -> &'a [u8]
+    ensures { result.now ≡ take (length room.old) (pairs digits.now) }
 {
-    let mut out = vec![in alloc; 0; most]?;
-    let n = bytes(digits, &mut out);
-    out.truncate(n);
-    Ok(out)
+    let n = bytes(digits, room);
+    &room[..n]
 }
 
 // The bytes that the first digits stand for, and zeros where there are too few.

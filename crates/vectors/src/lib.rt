@@ -1,13 +1,14 @@
 // What the programs that replay vectors share: lines, fields, bytes in hexadecimal, texts, and how answers are printed.
 #![tactic(auto)]
 
-ghost use Rattle.std.specs.Prelude.{◌≡◌, ◌↔◌, ◌+◌, ◌<◌, ◌==◌, [], replicate, length, take, drop, IfSome, IsNone};
+ghost use Rattle.std.specs.Prelude.{All, ◌≡◌, ◌↔◌, ◌+◌, ◌-◌, ◌<◌, ◌==◌, [], replicate, min, length, take, drop, IfSome, IsNone};
+ghost use Rattle.std.proofs.lemmas.List.Edits.{sets};
 ghost use Rattle.std.specs.List.{slice_split};
 ghost use Rattle.std.specs.Option.{option_map_or};
 ghost use Rattle.std.specs.Iterator.{YieldsFirstBy, item_count};
 ghost use Rattle.vectors.specs.Next.{next};
 
-use std::io::{ErrorKind, Result as Printed};
+use std::io::Result as Printed;
 
 pub mod hex;
 pub mod plain;
@@ -19,6 +20,14 @@ pub fn input() -> [u8; 1048576]
     ensures size { 1048576 ≡ length result }
 {
     [0; 1048576]
+}
+
+// So many zeros, as room for what a line speaks of.
+pub fn zeros<const N: usize>() -> [u8; N]
+    ensures size { N ≡ length result }
+    ensures bytes { All (λ b. b ≡ 0) result }
+{
+    [0; N]
 }
 
 // The lines of an input, without their newlines, that are still to come; or none.
@@ -56,36 +65,25 @@ pub fn lines(input: &[u8]) -> LinesLeft<'_>
     LinesLeft(Some(input))
 }
 
-// Has each line of standard input answered, by its letter and its fields, and ends each answer's line. An empty line is none. What cannot be
-// printed is lost, and the next line is answered; only where memory lacks does it end before the last.
-pub fn for_each_line<R: Print + AllocGlobal, F: FnMut(u8, &[u8]) -> Printed<()>>(
-    rt: &R,
-    answer: F,
-) -> Printed<()>
+// Has each line of standard input answered, by its letter and its fields, and ends each answer's line. An empty line is none. Where an
+// answer fails, the rest of it is lost, and the next line is answered.
+pub fn for_each_line<R: Print, F: FnMut(u8, &[u8]) -> Printed<()>>(rt: &R, answer: F)
     requires { F.IsAlwaysCallable answer }
 {
     let mut input = input();
     let n = io::read_full(0, &mut input);
-    answer_each(rt, &input[..n], answer)
+    answer_each(rt, &input[..n], answer);
 }
 
-fn answer_each<R: Print, F: FnMut(u8, &[u8]) -> Printed<()>>(
-    rt: &R,
-    input: &[u8],
-    mut answer: F,
-) -> Printed<()>
+fn answer_each<R: Print, F: FnMut(u8, &[u8]) -> Printed<()>>(rt: &R, input: &[u8], mut answer: F)
     requires { F.IsAlwaysCallable answer }
 {
     for line in lines(input) {
         if let Some((letter, fields)) = line.split_first() {
-            match answer(*letter, fields) {
-                Err(lacks) if lacks.kind() == ErrorKind::OutOfMemory => return Err(lacks),
-                _ => {}
-            }
+            let _ = answer(*letter, fields);
             let _ = rt.println("");
         }
     }
-    Ok(())
 }
 
 // The place of the next such byte from a place on, or the end.
@@ -110,6 +108,18 @@ pub fn cut(byte: u8, fields: &[u8]) -> Option<(&[u8], &[u8])>
     let (before, rest) = fields.split_at(next_of(byte, fields, 0));
     let (_, after) = rest.split_first()?;
     Some((before, after))
+}
+
+// Bytes put in a buffer from a place on, as far as there is room: the place after them.
+pub fn put(bytes: &[u8], out: &mut [u8], at: usize) -> usize
+    ensures value { result ≡ at + min (length bytes.now) (length out.old - at) }
+    ensures out_after { out.new ≡ sets out.old at bytes.now }
+{
+    let count = bytes.len().min(out.len().saturating_sub(at));
+    for n in 0..count {
+        out[at + n] = bytes[n];
+    }
+    at + count
 }
 
 // The number so many steps on, in a circle of n; a step is no longer than the circle, or else the number stands past its end.

@@ -1,10 +1,9 @@
 // Texts that are written so that they can be read: `\` and two digits are one byte in hexadecimal, and any other byte is itself.
-ghost use Rattle.std.specs.Prelude.{◌≡◌, ◌∷◌, [], ◌↔◌, min, length, take, IfOk, IfSome, IsNone};
+ghost use Rattle.std.specs.Prelude.{◌≡◌, ◌∷◌, [], ◌↔◌, min, length, take, IfSome, IsNone};
 ghost use Rattle.std.proofs.lemmas.List.Edits.{sets};
 ghost use Rattle.vectors.specs.Plain.{meant};
 
 use crate::hex;
-use std::alloc::{AllocError, Global};
 
 // The bytes that a written text stands for, put at the front of `out`: how many there are, or as many of them as there is room for.
 pub fn bytes(written: &[u8], out: &mut [u8]) -> usize
@@ -22,14 +21,12 @@ pub fn bytes(written: &[u8], out: &mut [u8]) -> usize
     out.len()
 }
 
-// The bytes that a written text stands for, or the first of them, so many at the most.
-pub fn decoded(alloc: Global, written: &[u8], most: usize) -> Result<Vec<u8>, AllocError>
-    ensures { IfOk result (λ v. v.items ≡ take most (meant written.now)) }
+// The bytes that a written text stands for, or as many of them as there is room for, put at the front of it.
+pub fn decoded<'a>(written: &[u8], room: &'a mut [u8]) -> &'a [u8]
+    ensures { result.now ≡ take (length room.old) (meant written.now) }
 {
-    let mut out = vec![in alloc; 0; most]?;
-    let n = bytes(written, &mut out);
-    out.truncate(n);
-    Ok(out)
+    let n = bytes(written, room);
+    &room[..n]
 }
 
 // The first byte that is written, and what is written after it.

@@ -9,14 +9,15 @@ use reader::reading;
 use record::Record;
 use refusal::Refusal;
 use std::io;
-use vectors::say::{Answer, Hex};
-use vectors::{hex, plain};
+use vectors::say::{Answer, Pieces};
+use vectors::{hex, plain, say};
 
-fn main(rt: HostRuntime) -> io::Result<()> {
-    vectors::for_each_line(&rt, |letter, fields| answer(&rt, letter, fields))
+fn main(rt: HostRuntime) {
+    let rt = Pieces(rt);
+    vectors::for_each_line(&rt, |letter, fields| answer(&rt, letter, fields));
 }
 
-fn answer(rt: &(impl Print + AllocGlobal), letter: u8, fields: &[u8]) -> io::Result<()> {
+fn answer(rt: &impl Print, letter: u8, fields: &[u8]) -> io::Result<()> {
     match letter {
         b'w' => given(rt, fields),
         b'a' => again(rt, fields),
@@ -24,27 +25,32 @@ fn answer(rt: &(impl Print + AllocGlobal), letter: u8, fields: &[u8]) -> io::Res
     }
 }
 
-fn given(rt: &(impl Print + AllocGlobal), fields: &[u8]) -> io::Result<()> {
+fn given(rt: &impl Print, fields: &[u8]) -> io::Result<()> {
     let Some((room, fields)) = fields.split_first_chunk::<5>() else {
         return Ok(());
     };
     let Some((text, file)) = vectors::cut(b'|', fields) else {
         return Ok(());
     };
-    let text = plain::decoded(rt.alloc(), text, 4096)?;
-    let file = hex::decoded(rt.alloc(), file, 8192)?;
-    let mut out = vec![in rt.alloc(); b'~'; hex::size(&room[0..4])]?;
-    let written = writer::write(&text, &file, &mut out);
-    print!(rt; "{} {}", Answer(written), Hex(&out))
+    let mut text_room = [0; 4096];
+    let mut file_room = [0; 8192];
+    let mut out_room = [b'~'; 4096];
+    let text = plain::decoded(text, &mut text_room);
+    let file = hex::decoded(file, &mut file_room);
+    let out = &mut out_room[..hex::size(&room[0..4])];
+    let written = writer::write(text, file, out);
+    print!(rt; "{} ", Answer(written))?;
+    say::hex(rt, out)
 }
 
 // A text of at most 16,384 bytes.
-fn again(rt: &(impl Print + AllocGlobal), field: &[u8]) -> io::Result<()> {
-    let text = plain::decoded(rt.alloc(), field, 16384)?;
-    let mut file = vec![in rt.alloc(); 0; 294912]?;
-    let mut out = vec![in rt.alloc(); 0; 65536]?;
-    match rewritten(&text, &mut file, &mut out) {
-        Ok(n) => print!(rt; "{}", Hex(out.get(..n).unwrap_or(&[]))),
+fn again(rt: &impl Print, field: &[u8]) -> io::Result<()> {
+    let mut room = [0; 16384];
+    let mut file = vectors::zeros::<294912>();
+    let mut out = vectors::zeros::<65536>();
+    let text = plain::decoded(field, &mut room);
+    match rewritten(text, &mut file, &mut out) {
+        Ok(n) => say::hex(rt, out.get(..n).unwrap_or(&[])),
         Err(refusal) => print!(rt; "refusal {} ", Answer(Err(refusal))),
     }
 }

@@ -1,27 +1,31 @@
 -- `lookup::climb` meets its contract, by the `at` of the record, which is less for its owner.
+use Prim.Native.Nat.{◌<◌}
 use native.Mathlib.Omega.{arith}
-use Rattle.lookup.proofs.Steps.{ended, lacks, inside, lower, further}
+use Rattle.record.specs.declared.Record.{Record}
+use Rattle.file.specs.File.{record_in}
+use Rattle.lookup.proofs.Steps.{alone, below, inside, lower, further}
 use Rattle.lookup.proofs.+climb.Goals as goal
 
-pub returns-then-at-owner : goal.returns-then-at-owner
-returns-then-at-owner t c =
-    rw (← c.at-r.ensures) (ended c.args.lent.now.now c.at-r.result c.args.count (omega arith))
-
-pub returns-in_default : goal.returns-in_default
-returns-in_default t c =
-    let is = rw c.owner-2.ensures at c.first_at.ensures in
-    rw (← c.at-r.ensures) (lacks c.args.lent.now.now c.at-r.result c.args.count (omega arith) c.first_at.result is c.in_default.is)
+pub returns-in-None : goal.returns-in-None
+returns-in-None t c =
+    let n = c.owner_index in
+    alone c.args.lent.now.now (record_in c.args.lent.now.now c.args.index) c.args.count n.result n.ensures.ended n.ensures.below c.in-None.is
 
 pub climb-requires : goal.climb-requires
 climb-requires t c =
     let a = c.args in
-    let is = rw c.owner-2.ensures at c.first_at.ensures in
-    let l = rw c.at-r.ensures at (lower a.lent.now.now c.at-r.result a.count (omega arith) c.first_at.result is c.in-Some.next c.in-Some.is) in
-    let i = inside a.lent.now.now c.at-r.result a.count (omega arith) c.first_at.result is c.in-Some.next c.in-Some.is in
-    (omega (arith, l, c.decreases), (i, omega (arith, l, c.requires.1)))
+    let r : Record = record_in a.lent.now.now a.index in
+    let n = c.owner_index in
+    let i = c.in-Some.next in
+    let b : r.owner < r.at = below a.lent.now.now r a.count n.result n.ensures.ended n.ensures.below i c.in-Some.is in
+    let l = lower a.lent.now.now r a.count b n.result (n.ensures.below b) i c.in-Some.is in
+    (omega (arith, l, c.decreases), (inside a.lent.now.now r a.count b n.result (n.ensures.below b) i c.in-Some.is, omega (arith, l, c.requires.1)))
 
-pub returns : goal.returns
-returns t c =
-    let is = rw c.owner-2.ensures at c.first_at.ensures in
-    rw (← c.at-r.ensures)
-    (further c.args.lent.now.now c.at-r.result c.args.count (omega arith) c.first_at.result is c.in-Some.next c.in-Some.is c.climb.result c.climb.ensures)
+pub returns-in-Some : goal.returns-in-Some
+returns-in-Some t c =
+    let a = c.args in
+    let r : Record = record_in a.lent.now.now a.index in
+    let n = c.owner_index in
+    let i = c.in-Some.next in
+    let b : r.owner < r.at = below a.lent.now.now r a.count n.result n.ensures.ended n.ensures.below i c.in-Some.is in
+    further a.lent.now.now r a.count b n.result (n.ensures.below b) i c.in-Some.is c.climb.result c.climb.ensures
