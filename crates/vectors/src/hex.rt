@@ -3,6 +3,8 @@ ghost use Rattle.std.specs.Prelude.{◌≡◌, ◌<◌, min, length, take, repli
 ghost use Rattle.std.proofs.lemmas.List.Edits.{sets};
 ghost use Rattle.vectors.specs.Hex.{digit, pair, pairs};
 
+use std::fmt;
+
 fn digit(b: u8) -> u8
     ensures { (result ≡ digit b) × (result < 16) }
 {
@@ -61,4 +63,30 @@ pub fn three(bytes: &[u8], place: usize) -> usize
     ensures { result < 16777216 }
 {
     little::number(bytes, place, 3) as usize
+}
+
+// Each byte in hexadecimal, as a part of what is formatted.
+#[derive(Clone, Copy)]
+pub struct Hex<'a>(pub &'a [u8]);
+
+impl fmt::Display for Hex<'_> {
+    fn fmt<W: fmt::Write>(&self, f: &mut fmt::Formatter<W>) -> fmt::Result {
+        for b in self.0 {
+            write!(f, "{b:02x}")?;
+        }
+        Ok(())
+    }
+}
+
+#[cfg(test)]
+mod tests {
+    use super::*;
+    use std::alloc::AllocError;
+
+    #[test]
+    fn bytes_in_hexadecimal(rt: HostRuntime) -> Result<(), AllocError> {
+        let said = format!(in rt.alloc(); "{}|{}", Hex(&[0, 9, 161, 255]), Hex(&[]))?;
+        assert_eq!(rt; said.as_str(), "0009a1ff|");
+        Ok(())
+    }
 }

@@ -2,6 +2,9 @@
 use refusal::Refusal;
 use std::{fmt, io};
 
+// Bytes in hexadecimal where they are a part of what is formatted; `hex` prints them.
+pub use crate::hex::Hex;
+
 // Prints each piece by a write of its own: a number, a byte in hexadecimal, or what stands between two. What cannot be written is lost, and
 // the next piece is tried: no call of it fails.
 #[derive(Drop)]
